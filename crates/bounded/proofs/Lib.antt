@@ -1,0 +1,4 @@
+pub mod Prefix
+pub mod Overwrite
+pub mod Shifts
+pub mod Laws

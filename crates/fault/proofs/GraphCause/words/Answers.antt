@@ -1,0 +1,12 @@
+use mathlib.Core.Path.{_≡_, ap, sym}
+use Rattle.fault.specs.Table.{of-graph}
+use Rattle.fault.proofs.GraphCause.words.Needs as need
+
+pub returns-in-Unwired : need.returns-in-Unwired
+returns-in-Unwired c = sym (ap (λ k. of-graph k .words) (c .in-Unwired .is))
+
+pub returns-in-CutOff : need.returns-in-CutOff
+returns-in-CutOff c = sym (ap (λ k. of-graph k .words) (c .in-CutOff .is))
+
+pub returns-in-ZeroLoop : need.returns-in-ZeroLoop
+returns-in-ZeroLoop c = sym (ap (λ k. of-graph k .words) (c .in-ZeroLoop .is))

@@ -1,0 +1,5 @@
+pub mod Lists
+pub mod Plan
+pub mod Paths
+pub mod Rules
+pub mod Times

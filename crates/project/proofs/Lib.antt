@@ -1,0 +1,3 @@
+pub mod Firsts
+pub mod Wired
+pub mod Found

@@ -1,0 +1,4 @@
+// Projects: lines that keep every rule, read from images and written as images.
+mod flaws;
+mod search;
+mod wiring;
