@@ -18,15 +18,15 @@ use Rattle.line.specs.declared.parts.Source.the-variants.{Sensor, Outlet}
 use Rattle.line.specs.declared.parts.Sink.{Sink}
 use Rattle.line.specs.declared.parts.Sink.the-variants.{Inlet, Actuator}
 use Rattle.line.specs.declared.parts.Channel.{Channel}
-use Rattle.project.specs.Search.{Tells}
+use Rattle.std.specs.Orderings.{Decides}
 use Rattle.project.proofs.Wired.{first-some, first-none, sink-same, sink-self, in-at, at-in, ends-there, ends-nowhere, begins-there, begins-nowhere}
 
 -- an answer that is none exactly where P holds
-tells-some : {A : Type 0} (P : Type 0) (v : Option A) → ((x : A) → v ≡ Some x → P) → (v ≡ None → P → ⊥) → Tells (isSome v) P
-tells-some P None f g = record { sure = λ e. absurd (false≢true e); whole = λ h. absurd (g refl h) }
-tells-some P (Some x) f g = record { sure = λ e. f x refl; whole = λ h. refl }
+tells-some : {A : Type 0} (P : Type 0) (v : Option A) → ((x : A) → v ≡ Some x → P) → (v ≡ None → P → ⊥) → Decides (isSome v) P
+tells-some P None f g = (λ e. absurd (false≢true e), λ h. absurd (g refl h))
+tells-some P (Some x) f g = (λ e. f x refl, λ h. refl)
 
-pub doubled-tells : (p : Plan) (k : ℕ) → k < length (p .channels) → Tells (isSome (start-of (channel-of p k .sink) (take k (p .channels)))) (Doubled p k)
+pub doubled-tells : (p : Plan) (k : ℕ) → k < length (p .channels) → Decides (isSome (start-of (channel-of p k .sink) (take k (p .channels)))) (Doubled p k)
 doubled-tells p k h =
     let cs = p .channels in
     let y = channel-of p k .sink in
@@ -44,31 +44,31 @@ doubled-tells p k h =
       first-none (λ c. same-sink (c .sink) y) (λ c. c .source) (take k cs) e _ there (ap (λ z. same-sink z y) same ∙ sink-self y))
 
 pub doubled : (p : Plan) (k m : ℕ) (cs : List Channel) (v : Option Source) (b : Bool) → cs ≡ p .channels → m ≡ k → k < length cs
-  → v ≡ start-of (getD cs k no-channel .sink) (take m cs) → b ≡ isSome v → Tells b (Doubled p k)
+  → v ≡ start-of (getD cs k no-channel .sink) (take m cs) → b ≡ isSome v → Decides b (Doubled p k)
 doubled p k m cs v b ec em h ev eb =
     let same : v ≡ start-of (channel-of p k .sink) (take k (p .channels)) =
           ev ∙ ap (λ n. start-of (getD cs k no-channel .sink) (take n cs)) em ∙ ap (λ xs. start-of (getD xs k no-channel .sink) (take k xs)) ec in
     let low : k < length (p .channels) = subst (λ (xs : List Channel). k < length xs) ec h in
-    subst (λ (x : Bool). Tells x (Doubled p k)) (sym (eb ∙ ap isSome same)) (doubled-tells p k low)
+    subst (λ (x : Bool). Decides x (Doubled p k)) (sym (eb ∙ ap isSome same)) (doubled-tells p k low)
 
-tells-none : {A : Type 0} (P : Type 0) (v : Option A) (b : Bool) → isSome v ≡ not b → (v ≡ None → P) → ((x : A) → v ≡ Some x → P → ⊥) → Tells b P
-tells-none P v true e f g = record { sure = λ _. f (is-none v e); whole = λ _. refl }
+tells-none : {A : Type 0} (P : Type 0) (v : Option A) (b : Bool) → isSome v ≡ not b → (v ≡ None → P) → ((x : A) → v ≡ Some x → P → ⊥) → Decides b P
+tells-none P v true e f g = (λ _. f (is-none v e), λ _. refl)
  where
   is-none : {A : Type 0} (v : Option A) → isSome v ≡ false → v ≡ None
   is-none None e = refl
   is-none (Some x) e = absurd (false≢true (sym e))
 tells-none P None false e f g = absurd (false≢true e)
-tells-none P (Some x) false e f g = record { sure = λ z. absurd (false≢true z); whole = λ h. absurd (g x refl h) }
+tells-none P (Some x) false e f g = (λ z. absurd (false≢true z), λ h. absurd (g x refl h))
 
 pub idle : (p : Plan) (s : ℕ) (cs : List Channel) (v : Option Sink) (b : Bool) → cs ≡ p .channels → s < length (p .sensors)
-  → v ≡ end-of (Sensor s) cs → isSome v ≡ not b → Tells b (Idle p s)
+  → v ≡ end-of (Sensor s) cs → isSome v ≡ not b → Decides b (Idle p s)
 idle p s cs v b ec h ev eb =
     let same = ev ∙ ap (end-of (Sensor s)) ec in
     tells-none (Idle p s) v b eb (λ e. (h, λ y m. ends-nowhere (p .channels) (Sensor s) y (sym same ∙ e) m))
     (λ y e w. w .1 y (ends-there (p .channels) (Sensor s) y (sym same ∙ e)))
 
 pub unfed : (p : Plan) (q : ℕ) (cs : List Channel) (v : Option Source) (b : Bool) → cs ≡ p .channels → q < p .actuators
-  → v ≡ start-of (Actuator q) cs → isSome v ≡ not b → Tells b (Unfed p q)
+  → v ≡ start-of (Actuator q) cs → isSome v ≡ not b → Decides b (Unfed p q)
 unfed p q cs v b ec h ev eb =
     let same = ev ∙ ap (start-of (Actuator q)) ec in
     tells-none (Unfed p q) v b eb (λ e. (h, λ x m. begins-nowhere (p .channels) x (Actuator q) (sym same ∙ e) m))

@@ -3,7 +3,7 @@ ghost use Prim.Native.Nat.{ℕ};
 ghost use Rattle.image.specs.Draft.{plan-of};
 ghost use Rattle.line.specs.Plan.{end-of, start-of};
 ghost use Rattle.line.specs.Rules.{Misplaced, Doubled, Idle, Unfed, weight};
-ghost use Rattle.project.specs.Search.{Tells};
+ghost use Rattle.std.specs.Orderings.{Decides};
 ghost use Prim.Native.Nat.{_<_};
 use super::search::Flaw;
 use super::wiring::end_of;
@@ -14,7 +14,7 @@ use line::parts::Source;
 
 // Whether channels from a stand before channels from b: sensors first, then by number, then by outlet.
 fn precedes(a: Source, b: Source) -> bool
-    ensures { λ r. ⌜ Tells r (weight a < weight b) ⌝ }
+    ensures { λ r. ⌜ Decides r (weight a < weight b) ⌝ }
 {
     match (a, b) {
         (Source::Sensor(m), Source::Sensor(n)) => m < n,

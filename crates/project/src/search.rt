@@ -1,13 +1,14 @@
 // The lowest number with a fault, for every kind of fault.
 ghost use Prim.Native.Nat.{ℕ};
-ghost use Rattle.project.specs.Search.{Tells, Lowest};
+ghost use Rattle.std.specs.Orderings.{Decides};
+ghost use Rattle.project.specs.Search.{Lowest};
 
 pub trait Flaw {
     // What is wrong with the number k.
     ghost wrong: { Self → ℕ → Type 0 };
 
     fn is_wrong(&self, k: usize) -> bool
-        ensures { λ r. ⌜ Tells r (wrong (now (self .entry)) k) ⌝ };
+        ensures { λ r. ⌜ Decides r (wrong (now (self .entry)) k) ⌝ };
 }
 
 // The lowest number below n that has the flaw.

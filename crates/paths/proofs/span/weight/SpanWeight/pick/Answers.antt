@@ -1,0 +1,5 @@
+use Rattle.paths.proofs.Spans.{same-span}
+use Rattle.paths.proofs.span.weight.SpanWeight.pick.Needs as need
+
+pub returns : need.returns
+returns c = same-span _ _ (c .min .ensures)
