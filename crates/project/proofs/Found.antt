@@ -2,6 +2,7 @@
 use mathlib.Core.Path.{_≡_, refl, sym, ap, subst, _∙_}
 use mathlib.Core.Bool.{Bool, true, false, not}
 use mathlib.Core.List.{List, [], _∷_}
+use mathlib.Core.Logic.{_⊎_, inl, inr, ⊎-elim}
 use Prim.Native.Nat.{ℕ, _+_, _≤_, _<_}
 use native.Mathlib.Omega.{arith}
 use lib.ListN.{length, getD, take}
@@ -19,7 +20,10 @@ use Rattle.line.specs.declared.parts.Sink.{Sink}
 use Rattle.line.specs.declared.parts.Sink.the-variants.{Inlet, Actuator}
 use Rattle.line.specs.declared.parts.Channel.{Channel}
 use Rattle.std.specs.Orderings.{Decides}
-use Rattle.project.proofs.Wired.{first-some, first-none, sink-same, sink-self, in-at, at-in, ends-there, ends-nowhere, begins-there, begins-nowhere}
+use Rattle.paths.specs.Paths.{at}
+use Rattle.project.specs.Search.{Lowest}
+use Rattle.project.specs.Tables.{places, exit, Serves, SeveredBy}
+use Rattle.project.proofs.Wired.{none≢some, first-some, first-none, sink-same, sink-self, in-at, at-in, ends-there, ends-nowhere, begins-there, begins-nowhere}
 
 -- an answer that is none exactly where P holds
 tells-some : {A : Type 0} (P : Type 0) (v : Option A) → ((x : A) → v ≡ Some x → P) → (v ≡ None → P → ⊥) → Decides (isSome v) P
@@ -73,3 +77,20 @@ unfed p q cs v b ec h ev eb =
     let same = ev ∙ ap (start-of (Actuator q)) ec in
     tells-none (Unfed p q) v b eb (λ e. (h, λ x m. begins-nowhere (p .channels) x (Actuator q) (sym same ∙ e) m))
     (λ x e w. w .1 x (begins-there (p .channels) x (Actuator q) (sym same ∙ e)))
+
+pub severed-by : (p : Plan) (r : List Bool) (a n : ℕ) (v : Option ℕ) (b : Bool) → a < length (p .actors) → at false places r a exit ≡ true → n ≡ length (p .channels)
+  → Lowest (λ k. (k < length (p .channels)) × Serves r a (channel-of p k .source) (channel-of p k .sink)) n v → isSome v ≡ not b → Decides b (SeveredBy p r a)
+severed-by p r a n v b ha e en low eb = tells-none (SeveredBy p r a) v b eb (quiet v low) (heard v low)
+ where
+  quiet : (v : Option ℕ) → Lowest (λ k. (k < length (p .channels)) × Serves r a (channel-of p k .source) (channel-of p k .sink)) n v → v ≡ None → SeveredBy p r a
+  quiet None l _ = (ha, inl (λ c m s.
+      let i = at-in (p .channels) c no-channel m in
+      l (i .0) (omega (arith, i .1, en)) (i .1, subst (λ (x : Channel). Serves r a (x .source) (x .sink)) (sym (i .2)) s)))
+  quiet (Some k) l e = absurd (none≢some (sym e))
+  heard : (v : Option ℕ) → Lowest (λ k. (k < length (p .channels)) × Serves r a (channel-of p k .source) (channel-of p k .sink)) n v
+    → (k : ℕ) → v ≡ Some k → SeveredBy p r a → ⊥
+  heard None l k e s = none≢some e
+  heard (Some j) l k _ s = ⊎-elim
+      (λ f. f (channel-of p j) (in-at (p .channels) j no-channel (l .1 .0)) (l .1 .1))
+      (λ f. false≢true (sym f ∙ e))
+      (s .1)

@@ -42,7 +42,7 @@ pub sink-self : (x : Sink) → same-sink x x ≡ true
 sink-self (Inlet a i) = and-from (eqb a a) (eqb i i) (eq-eqb a a refl) (eq-eqb i i refl)
 sink-self (Actuator q) = eq-eqb q q refl
 
-none≢some : {B : Type 0} {y : B} → None ≡ Some y → ⊥
+pub none≢some : {B : Type 0} {y : B} → None ≡ Some y → ⊥
 none≢some e = let z : _≡_ {A = ℕ} 0 1 = cc in omega arith
 
 cond-none : {B : Type 0} (b : Bool) (y : B) (v : Option B) → cond b (Some y) v ≡ None → (b ≡ false) × (v ≡ None)

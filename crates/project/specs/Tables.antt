@@ -2,6 +2,7 @@
 use mathlib.Core.Path.{_≡_}
 use mathlib.Core.List.{List}
 use mathlib.Core.Bool.{Bool, true, false, cond, _&&_}
+use mathlib.Core.Logic.{_⊎_}
 use Prim.Native.Nat.{ℕ, _^_, _<_, min}
 use lib.Dec.{eqb}
 use lib.ListN.{length}
@@ -64,3 +65,18 @@ pub record Far (p : Plan) (r : List Span) : Type 0 where
 pub record Reach (p : Plan) (r : List Bool) : Type 0 where
   pub paths : (b a : ℕ) → b < exit → a < exit → Decides (at false places r b a) ((n : ℕ) × Path p b a n)
   pub exits : (b : ℕ) → b < exit → Decides (at false places r b exit) ((n : ℕ) × Exit p b n)
+
+-- by the table r, a channel from a sensor comes to actor a, there or by a path
+abbrev pub Serves : List Bool → ℕ → Source → Sink → Type 0
+Serves r a (Sensor s) (Inlet b i) = (a ≡ b) ⊎ (at false places r b a ≡ true)
+Serves r a (Sensor s) (Actuator q) = ⊥
+Serves r a (Outlet b o) (Inlet c i) = ⊥
+Serves r a (Outlet b o) (Actuator q) = ⊥
+
+-- by the table r, no channel from a sensor comes to actor a, or a reaches no actuator
+abbrev pub SeveredBy : Plan → List Bool → ℕ → Type 0
+SeveredBy p r a = (a < length (p .actors)) × (((c : Channel) → In c (p .channels) → Serves r a (c .source) (c .sink) → ⊥) ⊎ (at false places r a exit ≡ false))
+
+-- by the table r, actor a is at distance 0 from itself
+abbrev pub InstantBy : Plan → List Span → ℕ → Type 0
+InstantBy p r a = (a < length (p .actors)) × (length-at places r a a ≡ Some 0)

@@ -2,15 +2,21 @@
 ghost use Prim.Native.Nat.{ℕ};
 ghost use Rattle.image.specs.Draft.{plan-of};
 ghost use Rattle.line.specs.Plan.{end-of, start-of};
-ghost use Rattle.line.specs.Rules.{Misplaced, Doubled, Idle, Unfed, weight};
+ghost use Rattle.line.specs.Rules.{Misplaced, Doubled, Idle, Unfed, channel-of, weight};
 ghost use Rattle.std.specs.Orderings.{Decides};
 ghost use Prim.Native.Nat.{_<_};
-use super::search::Flaw;
+ghost use lib.ListN.{length};
+ghost use Rattle.project.specs.Tables.{Serves, SeveredBy, InstantBy};
+use super::search::Condition;
+use super::search::lowest;
+use super::tables::leads;
+use super::tables::span_between;
 use super::wiring::end_of;
 use super::wiring::start_of;
 use image::draft::Draft;
 use line::parts::Sink;
 use line::parts::Source;
+use paths::Span;
 
 // Whether channels from a stand before channels from b: sensors first, then by number, then by outlet.
 fn precedes(a: Source, b: Source) -> bool
@@ -25,12 +31,13 @@ fn precedes(a: Source, b: Source) -> bool
 }
 
 // A channel that does not stand above the one before it.
+#[derive(Drop)]
 pub struct Order<'a>(pub &'a Draft);
 
-impl Flaw for Order<'_> as OrderFlaw {
-    ghost wrong = { λ s k. Misplaced (plan-of (s .0 .now)) k };
+impl Condition for Order<'_> as OrderCondition {
+    ghost met = { λ s k. Misplaced (plan-of (s .0 .now)) k };
 
-    fn is_wrong(&self, k: usize) -> bool {
+    fn is_met(&self, k: usize) -> bool {
         let channels = self.0.channels.as_slice();
         if k == 0 || k >= channels.len() {
             return false;
@@ -40,12 +47,13 @@ impl Flaw for Order<'_> as OrderFlaw {
 }
 
 // A channel that ends where an earlier one ends.
+#[derive(Drop)]
 pub struct Double<'a>(pub &'a Draft);
 
-impl Flaw for Double<'_> as DoubleFlaw {
-    ghost wrong = { λ s k. Doubled (plan-of (s .0 .now)) k };
+impl Condition for Double<'_> as DoubleCondition {
+    ghost met = { λ s k. Doubled (plan-of (s .0 .now)) k };
 
-    fn is_wrong(&self, k: usize) -> bool {
+    fn is_met(&self, k: usize) -> bool {
         let channels = self.0.channels.as_slice();
         if k >= channels.len() {
             return false;
@@ -55,12 +63,13 @@ impl Flaw for Double<'_> as DoubleFlaw {
 }
 
 // A sensor that feeds nothing.
+#[derive(Drop)]
 pub struct Idleness<'a>(pub &'a Draft);
 
-impl Flaw for Idleness<'_> as IdlenessFlaw {
-    ghost wrong = { λ s k. Idle (plan-of (s .0 .now)) k };
+impl Condition for Idleness<'_> as IdlenessCondition {
+    ghost met = { λ s k. Idle (plan-of (s .0 .now)) k };
 
-    fn is_wrong(&self, k: usize) -> bool {
+    fn is_met(&self, k: usize) -> bool {
         if k >= self.0.sensors.len() {
             return false;
         }
@@ -69,15 +78,86 @@ impl Flaw for Idleness<'_> as IdlenessFlaw {
 }
 
 // An actuator that nothing feeds.
+#[derive(Drop)]
 pub struct Hunger<'a>(pub &'a Draft);
 
-impl Flaw for Hunger<'_> as HungerFlaw {
-    ghost wrong = { λ s k. Unfed (plan-of (s .0 .now)) k };
+impl Condition for Hunger<'_> as HungerCondition {
+    ghost met = { λ s k. Unfed (plan-of (s .0 .now)) k };
 
-    fn is_wrong(&self, k: usize) -> bool {
+    fn is_met(&self, k: usize) -> bool {
         if k >= self.0.actuators as usize {
             return false;
         }
         start_of(self.0.channels.as_slice(), Sink::Actuator(k as u8)).is_none()
+    }
+}
+
+// Whether a channel from x to y begins at a sensor and comes to the actor, there or by a path.
+fn serves(reach: &[bool; 1089], actor: u8, x: Source, y: Sink) -> bool
+    ensures { λ r. ⌜ Decides r (Serves (now (reach .entry)) actor x y) ⌝ }
+{
+    match (x, y) {
+        (Source::Sensor(_), Sink::Inlet { actor: b, inlet: _ }) => b == actor || leads(reach, b, actor),
+        _ => false,
+    }
+}
+
+// A channel that serves an actor.
+#[derive(Drop)]
+struct Service<'a> {
+    draft: &'a Draft,
+    reach: &'a [bool; 1089],
+    actor: u8,
+}
+
+impl Condition for Service<'_> as ServiceCondition {
+    ghost met = { λ s k. (k < length (plan-of (s .draft .now) .channels)) × Serves (s .reach .now) (s .actor) (channel-of (plan-of (s .draft .now)) k .source) (channel-of (plan-of (s .draft .now)) k .sink) };
+
+    fn is_met(&self, k: usize) -> bool {
+        let Some(channel) = self.draft.channels.get(k) else {
+            return false;
+        };
+        serves(self.reach, self.actor, channel.source, channel.sink)
+    }
+}
+
+// An actor that no sensor comes to, or that comes to no actuator.
+#[derive(Drop)]
+pub struct Isolation<'a> {
+    pub draft: &'a Draft,
+    pub reach: &'a [bool; 1089],
+}
+
+impl Condition for Isolation<'_> as IsolationCondition {
+    ghost met = { λ s k. SeveredBy (plan-of (s .draft .now)) (s .reach .now) k };
+
+    fn is_met(&self, k: usize) -> bool {
+        if k >= self.draft.actors.len() {
+            return false;
+        }
+        let actor = k as u8;
+        let service = Service { draft: self.draft, reach: self.reach, actor };
+        !leads(self.reach, actor, 32) || lowest(&service, self.draft.channels.len()).is_none()
+    }
+}
+
+// An actor on a cycle without delay.
+#[derive(Drop)]
+pub struct Instantness<'a> {
+    pub draft: &'a Draft,
+    pub far: &'a [Span; 1089],
+}
+
+impl Condition for Instantness<'_> as InstantnessCondition {
+    ghost met = { λ s k. InstantBy (plan-of (s .draft .now)) (s .far .now) k };
+
+    fn is_met(&self, k: usize) -> bool {
+        if k >= self.draft.actors.len() {
+            return false;
+        }
+        match span_between(self.far, k as u8, k as u8) {
+            Some(micros) => micros == 0,
+            None => false,
+        }
     }
 }

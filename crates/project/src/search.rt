@@ -1,22 +1,22 @@
-// The lowest number with a fault, for every kind of fault.
+// The lowest number that meets a condition, for every kind of condition.
 ghost use Prim.Native.Nat.{ℕ};
 ghost use Rattle.std.specs.Orderings.{Decides};
 ghost use Rattle.project.specs.Search.{Lowest};
 
-pub trait Flaw {
-    // What is wrong with the number k.
-    ghost wrong: { Self → ℕ → Type 0 };
+pub trait Condition {
+    // What is said of the number k.
+    ghost met: { Self → ℕ → Type 0 };
 
-    fn is_wrong(&self, k: usize) -> bool
-        ensures { λ r. ⌜ Decides r (wrong (now (self .entry)) k) ⌝ };
+    fn is_met(&self, k: usize) -> bool
+        ensures { λ r. ⌜ Decides r (met (now (self .entry)) k) ⌝ };
 }
 
-// The lowest number below n that has the flaw.
-pub fn lowest<F: Flaw>(flaw: &F, n: usize) -> Option<usize>
-    ensures { λ r. ⌜ Lowest (F·Flaw .wrong (now (flaw .entry))) n r ⌝ }
+// The lowest number below n that meets the condition.
+pub fn lowest<C: Condition>(condition: &C, n: usize) -> Option<usize>
+    ensures { λ r. ⌜ Lowest (C·Condition .met (now (condition .entry))) n r ⌝ }
 {
     for k in 0..n {
-        if flaw.is_wrong(k) {
+        if condition.is_met(k) {
             return Some(k);
         }
     }

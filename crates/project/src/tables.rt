@@ -6,9 +6,11 @@ ghost use mathlib.Core.Bool.{false};
 ghost use Rattle.image.specs.Draft.{plan-of};
 ghost use Rattle.line.specs.Rules.{Proper, Ranged, Sized};
 ghost use Rattle.line.specs.Plan.{delay};
+ghost use Rattle.paths.specs.Least.{length-at};
+ghost use Rattle.paths.specs.Paths.{at};
 ghost use Rattle.paths.specs.Spans.{length-of, no-span};
 ghost use Rattle.std.specs.Options.{isSome};
-ghost use Rattle.project.specs.Tables.{place-of, Adds, Laid, Far, Reach};
+ghost use Rattle.project.specs.Tables.{places, place-of, Adds, Laid, Far, Reach};
 use image::draft::Draft;
 use line::parts::Channel;
 use line::parts::Sink;
@@ -100,4 +102,26 @@ pub fn reach(draft: &Draft) -> [bool; 1089]
     let mut table = links(&edges(draft));
     let _ = reaches(&mut table, PLACES);
     table
+}
+
+// Whether the table leads from b to a.
+pub fn leads(table: &[bool; 1089], b: u8, a: u8) -> bool
+    ensures { λ r. ⌜ r ≡ at false places (now (table .entry)) b a ⌝ }
+{
+    let k = b as usize * PLACES + a as usize;
+    if k >= CELLS {
+        return false;
+    }
+    table[k]
+}
+
+// The length from b to a, if the table has one.
+pub fn span_between(table: &[Span; 1089], b: u8, a: u8) -> Option<u64>
+    ensures { λ r. ⌜ r ≡ length-at places (now (table .entry)) b a ⌝ }
+{
+    let k = b as usize * PLACES + a as usize;
+    if k >= CELLS {
+        return None;
+    }
+    table[k].length()
 }
