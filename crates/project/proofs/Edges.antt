@@ -91,16 +91,16 @@ least-same : (P Q : ℕ → Type 0) (v : Option ℕ) → Least P v → ((m : ℕ
 least-same P Q None l up back = λ m q. l m (back m q)
 least-same P Q (Some k) l up back = (up k (l .0), λ m q. l .1 m (back m q))
 
-in-front : {A : Type 0} (z : A) (xs ys : List A) → In z xs → In z (xs ++ ys)
+pub in-front : {A : Type 0} (z : A) (xs ys : List A) → In z xs → In z (xs ++ ys)
 in-front z [] ys m = absurd m
 in-front z (x ∷ xs) ys (inl e) = inl e
 in-front z (x ∷ xs) ys (inr m) = inr (in-front z xs ys m)
 
-in-end : {A : Type 0} (c : A) (xs : List A) → In c (xs ++ c ∷ [])
+pub in-end : {A : Type 0} (c : A) (xs : List A) → In c (xs ++ c ∷ [])
 in-end c [] = inl refl
 in-end c (x ∷ xs) = inr (in-end c xs)
 
-in-last : {A : Type 0} (z c : A) (xs : List A) → In z (xs ++ c ∷ []) → In z xs ⊎ (z ≡ c)
+pub in-last : {A : Type 0} (z c : A) (xs : List A) → In z (xs ++ c ∷ []) → In z xs ⊎ (z ≡ c)
 in-last z c [] (inl e) = inr e
 in-last z c [] (inr m) = absurd m
 in-last z c (x ∷ xs) (inl e) = inl (inl e)

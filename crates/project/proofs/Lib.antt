@@ -5,3 +5,5 @@ pub mod Found
 pub mod Closing
 pub mod Edges
 pub mod Routes
+pub mod Slacks
+pub mod Delays

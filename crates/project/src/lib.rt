@@ -2,4 +2,5 @@
 mod flaws;
 mod search;
 mod tables;
+mod waits;
 mod wiring;
