@@ -170,6 +170,7 @@ mod tests {
         Ok(())
     }
 
+    // The same graph without the longer way.
     #[test]
     fn what_reaches_what() -> Result<(), Fail> {
         let mut table = [false, true, false, false, false, true, false, false, true];

@@ -7,3 +7,4 @@ pub mod Edges
 pub mod Routes
 pub mod Slacks
 pub mod Delays
+pub mod Firstly

@@ -34,7 +34,7 @@ fn precedes(a: Source, b: Source) -> bool
 #[derive(Drop)]
 pub struct Order<'a>(pub &'a Draft);
 
-impl Condition for Order<'_> as OrderCondition {
+pub impl Condition for Order<'_> as OrderCondition {
     ghost met = { λ s k. Misplaced (plan-of (s .0 .now)) k };
 
     fn is_met(&self, k: usize) -> bool {
@@ -50,7 +50,7 @@ impl Condition for Order<'_> as OrderCondition {
 #[derive(Drop)]
 pub struct Double<'a>(pub &'a Draft);
 
-impl Condition for Double<'_> as DoubleCondition {
+pub impl Condition for Double<'_> as DoubleCondition {
     ghost met = { λ s k. Doubled (plan-of (s .0 .now)) k };
 
     fn is_met(&self, k: usize) -> bool {
@@ -66,7 +66,7 @@ impl Condition for Double<'_> as DoubleCondition {
 #[derive(Drop)]
 pub struct Idleness<'a>(pub &'a Draft);
 
-impl Condition for Idleness<'_> as IdlenessCondition {
+pub impl Condition for Idleness<'_> as IdlenessCondition {
     ghost met = { λ s k. Idle (plan-of (s .0 .now)) k };
 
     fn is_met(&self, k: usize) -> bool {
@@ -81,7 +81,7 @@ impl Condition for Idleness<'_> as IdlenessCondition {
 #[derive(Drop)]
 pub struct Hunger<'a>(pub &'a Draft);
 
-impl Condition for Hunger<'_> as HungerCondition {
+pub impl Condition for Hunger<'_> as HungerCondition {
     ghost met = { λ s k. Unfed (plan-of (s .0 .now)) k };
 
     fn is_met(&self, k: usize) -> bool {
@@ -128,7 +128,7 @@ pub struct Isolation<'a> {
     pub reach: &'a [bool; 1089],
 }
 
-impl Condition for Isolation<'_> as IsolationCondition {
+pub impl Condition for Isolation<'_> as IsolationCondition {
     ghost met = { λ s k. SeveredBy (plan-of (s .draft .now)) (s .reach .now) k };
 
     fn is_met(&self, k: usize) -> bool {
@@ -148,7 +148,7 @@ pub struct Instantness<'a> {
     pub far: &'a [Span; 1089],
 }
 
-impl Condition for Instantness<'_> as InstantnessCondition {
+pub impl Condition for Instantness<'_> as InstantnessCondition {
     ghost met = { λ s k. InstantBy (plan-of (s .draft .now)) (s .far .now) k };
 
     fn is_met(&self, k: usize) -> bool {

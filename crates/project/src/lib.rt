@@ -1,4 +1,5 @@
 // Projects: lines that keep every rule, read from images and written as images.
+mod checks;
 mod flaws;
 mod search;
 mod tables;

@@ -1,4 +1,5 @@
 use mathlib.Core.Path.{_≡_}
+use borrow.Author.Needs.{needs}
 use Rattle.std.proofs.shelf.Results.{cases-weaker}
 use Rattle.paths.proofs.Least as least
 use Rattle.paths.proofs.reaches.Needs as need
@@ -8,7 +9,7 @@ returns c =
     let before = c .args .table .now in
     let after = c .close .last .table in
     record {
-      square = c .close .ensures .square;
+      square = search needs;
       closed = cases-weaker (c .close .result) {Q = λ _. after ≡ before} (c .close .ensures .closed)
           (λ _. least.reached (c .args .n) before after) (λ _ same. same);
     }

@@ -1,5 +1,6 @@
+use native.Mathlib.Omega.{arith}
 use Rattle.paths.proofs.Spans.{same-span}
 use Rattle.paths.proofs.span.weight.SpanWeight.pick.Needs as need
 
 pub returns : need.returns
-returns c = same-span _ _ (c .min .ensures)
+returns c = same-span _ _ (omega arith)
