@@ -1,4 +1,8 @@
 pub mod Bytes
 pub mod Encoding
 pub mod Refusals
-pub mod Draft
+pub mod Drafts
+pub mod Fields
+pub mod Emission
+pub mod Laws
+pub mod Reading

@@ -8,3 +8,5 @@ pub mod Routes
 pub mod Slacks
 pub mod Delays
 pub mod Firstly
+pub mod Sounds
+pub mod Reading

@@ -2,7 +2,7 @@
 ghost use Prim.Native.Nat.{_≤_};
 ghost use lib.ListN.{length};
 ghost use Rattle.std.specs.Results.{Cases};
-ghost use Rattle.image.specs.Draft.{plan-of};
+ghost use Rattle.image.specs.Drafts.{plan-of};
 ghost use Rattle.line.specs.Rules.{Misplaced, Doubled, Severed, Instant, Sized, Ranged, Lawful};
 ghost use Rattle.fault.specs.declared.RecordsCause.the-variants.{Order as Unordered, Sink as Shared};
 ghost use Rattle.fault.specs.declared.GraphCause.the-variants.{Unwired as Unwired, CutOff as CutOff, ZeroLoop as ZeroLoop};

@@ -3,7 +3,7 @@ ghost use mathlib.Core.Path.{_≡_};
 ghost use Prim.Native.Nat.{ℕ, _≤_, _<_};
 ghost use lib.ListN.{length, getD};
 ghost use mathlib.Core.Bool.{false};
-ghost use Rattle.image.specs.Draft.{plan-of};
+ghost use Rattle.image.specs.Drafts.{plan-of};
 ghost use Rattle.line.specs.Rules.{Proper, Ranged, Sized};
 ghost use Rattle.line.specs.Plan.{delay};
 ghost use Rattle.paths.specs.Least.{length-at};

@@ -3,7 +3,7 @@ ghost use mathlib.Core.Path.{_≡_};
 ghost use Prim.Native.Nat.{ℕ, _≤_, _<_};
 ghost use lib.IntN.{pos};
 ghost use lib.ListN.{length, getD};
-ghost use Rattle.image.specs.Draft.{plan-of};
+ghost use Rattle.image.specs.Drafts.{plan-of};
 ghost use Rattle.line.specs.Plan.{lateness};
 ghost use Rattle.line.specs.Rules.{Proper, Ranged};
 ghost use Rattle.project.specs.Tables.{Far};

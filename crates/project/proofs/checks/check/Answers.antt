@@ -1,5 +1,5 @@
 use mathlib.Core.Path.{_≡_, sym, subst}
-use Rattle.image.specs.Draft.{plan-of}
+use Rattle.image.specs.Drafts.{plan-of}
 use Rattle.std.proofs.shelf.Results.{err-from-errBy}
 use Rattle.project.specs.Flawed.{FirstFlaw}
 use Rattle.project.proofs.Firstly.{first-order, first-sink, first-loose, first-severed, first-instant, lawful}

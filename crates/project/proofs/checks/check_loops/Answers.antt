@@ -1,6 +1,6 @@
 use mathlib.Core.Path.{_≡_, refl}
 use native.Mathlib.Omega.{arith}
-use Rattle.image.specs.Draft.{plan-of}
+use Rattle.image.specs.Drafts.{plan-of}
 use Rattle.project.proofs.Delays.{instant-is}
 use Rattle.project.proofs.checks.check_loops.Needs as need
 

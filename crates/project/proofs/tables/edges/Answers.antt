@@ -3,7 +3,7 @@ use mathlib.Core.List.{List}
 use Prim.Native.Nat.{_+_, _<_}
 use native.Mathlib.Omega.{arith}
 use lib.ListN.{length, take, replicate}
-use Rattle.image.specs.Draft.{plan-of}
+use Rattle.image.specs.Drafts.{plan-of}
 use Rattle.std.proofs.shelf.Lists.{take-more, take-all}
 use Rattle.line.specs.Lists.{In}
 use Rattle.line.specs.Rules.{no-channel, Proper}

@@ -1,5 +1,5 @@
 use lib.ListN.{take}
-use Rattle.image.specs.Draft.{plan-of}
+use Rattle.image.specs.Drafts.{plan-of}
 use Rattle.project.specs.Tables.{Laid}
 use Rattle.project.proofs.tables.edges.Given as given
 

@@ -2,7 +2,7 @@ use mathlib.Core.Path.{_≡_}
 use native.Mathlib.Omega.{arith}
 use borrow.Author.Needs.{needs}
 use lib.Dec.{lit≤}
-use Rattle.image.specs.Draft.{plan-of}
+use Rattle.image.specs.Drafts.{plan-of}
 use Rattle.project.proofs.Closing.{ok-part}
 use Rattle.project.proofs.Routes.{short, distance-is, exit-is}
 use Rattle.project.proofs.tables.far.Needs as need

@@ -1,5 +1,5 @@
 use mathlib.Core.Path.{_≡_, ap, sym, _∙_}
-use Rattle.image.specs.Draft.{plan-of}
+use Rattle.image.specs.Drafts.{plan-of}
 use Rattle.std.specs.declared.option.Option.the-variants.{Some}
 use Rattle.project.proofs.Edges.{lay-outlet, lay-sensor}
 use Rattle.project.proofs.tables.lay.Needs as need

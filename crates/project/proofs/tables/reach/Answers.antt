@@ -7,7 +7,7 @@ use Rattle.paths.specs.Least.{length-at}
 use Rattle.project.specs.Tables.{places}
 use native.Mathlib.Omega.{arith}
 use borrow.Author.Needs.{needs}
-use Rattle.image.specs.Draft.{plan-of}
+use Rattle.image.specs.Drafts.{plan-of}
 use Rattle.project.proofs.Closing.{ok-part}
 use Rattle.project.proofs.Routes.{reach-is, leaves-is}
 use Rattle.project.proofs.tables.reach.Needs as need

@@ -2,7 +2,7 @@ use mathlib.Core.Path.{_≡_, ap, sym, subst, _∙_}
 use Prim.Native.Nat.{_^_, _<_}
 use native.Mathlib.Omega.{arith}
 use borrow.Author.Needs.{needs}
-use Rattle.image.specs.Draft.{plan-of}
+use Rattle.image.specs.Drafts.{plan-of}
 use Rattle.line.specs.Rules.{Ends}
 use Rattle.project.proofs.Slacks.{sub-fits, slack-on}
 use Rattle.project.proofs.waits.slack.Needs as need

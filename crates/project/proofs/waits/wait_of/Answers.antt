@@ -1,7 +1,7 @@
 use mathlib.Core.Path.{_≡_, ap, sym, subst, _∙_}
 use mathlib.Core.List.{List}
 use lib.ListN.{take}
-use Rattle.image.specs.Draft.{plan-of}
+use Rattle.image.specs.Drafts.{plan-of}
 use Rattle.std.proofs.shelf.Lists.{take-more, take-all}
 use Rattle.line.specs.Lists.{In}
 use Rattle.line.specs.Rules.{no-channel}

@@ -2,7 +2,7 @@ use Prim.Native.Nat.{ℕ, _<_}
 use mathlib.Core.Path.{_≡_}
 use lib.IntN.{pos}
 use lib.ListN.{length, getD}
-use Rattle.image.specs.Draft.{plan-of}
+use Rattle.image.specs.Drafts.{plan-of}
 use Rattle.project.specs.Waits.{Awaits}
 use Rattle.project.proofs.waits.waits.Given as given
 

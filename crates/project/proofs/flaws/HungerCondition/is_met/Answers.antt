@@ -1,5 +1,5 @@
 use native.Mathlib.Omega.{arith}
-use Rattle.image.specs.Draft.{plan-of}
+use Rattle.image.specs.Drafts.{plan-of}
 use Rattle.project.proofs.Found.{unfed}
 use Rattle.project.proofs.flaws.HungerCondition.is_met.Needs as need
 

@@ -1,5 +1,5 @@
 use native.Mathlib.Omega.{arith}
-use Rattle.image.specs.Draft.{plan-of}
+use Rattle.image.specs.Drafts.{plan-of}
 use Rattle.project.proofs.Found.{idle}
 use Rattle.project.proofs.flaws.IdlenessCondition.is_met.Needs as need
 

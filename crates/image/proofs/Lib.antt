@@ -1,0 +1,10 @@
+pub mod Numbers
+pub mod Puts
+pub mod Rows
+pub mod Judging
+pub mod Fields
+pub mod Front
+pub mod Order
+pub mod Spelling
+pub mod Accepted
+pub mod Faithful
