@@ -4,3 +4,5 @@ pub mod Waits
 pub mod Flawed
 pub mod Lines
 pub mod Project
+pub mod Fresh
+pub mod Lookups

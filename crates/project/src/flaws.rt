@@ -12,7 +12,7 @@ use super::search::lowest;
 use super::tables::leads;
 use super::tables::span_between;
 use super::wiring::end_of;
-use super::wiring::start_of;
+use super::wiring::origin_of;
 use image::draft::Draft;
 use line::parts::Sink;
 use line::parts::Source;
@@ -58,7 +58,7 @@ pub impl Condition for Double<'_> as DoubleCondition {
         if k >= channels.len() {
             return false;
         }
-        start_of(&channels[0..k], channels[k].sink).is_some()
+        origin_of(&channels[0..k], channels[k].sink).is_some()
     }
 }
 
@@ -88,7 +88,7 @@ pub impl Condition for Hunger<'_> as HungerCondition {
         if k >= self.0.actuators as usize {
             return false;
         }
-        start_of(self.0.channels.as_slice(), Sink::Actuator(k as u8)).is_none()
+        origin_of(self.0.channels.as_slice(), Sink::Actuator(k as u8)).is_none()
     }
 }
 

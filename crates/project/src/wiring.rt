@@ -38,7 +38,7 @@ pub fn end_of(channels: &[Channel], x: Source) -> Option<Sink>
 }
 
 // Where the channel to y begins, if there is one.
-pub fn start_of(channels: &[Channel], y: Sink) -> Option<Source>
+pub fn origin_of(channels: &[Channel], y: Sink) -> Option<Source>
     ensures { λ r. ⌜ r ≡ start-of y (now (channels .entry)) ⌝ }
 {
     for c in channels {

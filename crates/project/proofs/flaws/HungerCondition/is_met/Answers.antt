@@ -4,4 +4,4 @@ use Rattle.project.proofs.Found.{unfed}
 use Rattle.project.proofs.flaws.HungerCondition.is_met.Needs as need
 
 pub returns : need.returns
-returns c = unfed (plan-of (c .args .self .now .0 .now)) (c .args .k) _ _ _ (c .as-slice .ensures) (omega arith) (c .start-of .ensures) (c .is-none .ensures)
+returns c = unfed (plan-of (c .args .self .now .0 .now)) (c .args .k) _ _ _ (c .as-slice .ensures) (omega arith) (c .origin-of .ensures) (c .is-none .ensures)

@@ -1,0 +1,20 @@
+use mathlib.Core.Path.{_≡_, ap, sym, _∙_}
+use mathlib.Core.Bool.{true}
+use mathlib.Core.Logic.{∥∥₁-map}
+use native.Mathlib.Omega.{arith}
+use lib.Dec.{ltb}
+use lib.ListN.{length}
+use Rattle.std.proofs.shelf.Tests.{lt-ltb}
+use Rattle.std.specs.Options.{whenTrue, valueOr}
+use Rattle.std.specs.declared.option.Option.the-variants.{Some}
+use Rattle.project.specs.Project.{plan, line}
+use Rattle.project.proofs.project.Project.deadline.Needs as need
+
+pub returns : need.returns
+returns c =
+    let a = c .args .actor in
+    let there : ltb (c .args .actor) (length (plan (c .args .self .now) .actors)) ≡ true = lt-ltb _ _ (omega arith) in
+    record {
+      value = ap Some (c .unwrap-or .ensures ∙ ap (λ v. valueOr v 0) (c .span-between .ensures)) ∙ sym (ap (λ b. whenTrue b (line (c .args .self .now) .deadline a)) there);
+      least = λ h. ∥∥₁-map (c .args .self .now .sound) (λ s. s .deadlines a h);
+    }
