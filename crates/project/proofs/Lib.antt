@@ -10,3 +10,4 @@ pub mod Delays
 pub mod Firstly
 pub mod Sounds
 pub mod Reading
+pub mod Freshly

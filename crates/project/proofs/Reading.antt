@@ -20,7 +20,7 @@ use Rattle.image.proofs.Faithful.{sound-image, one-plan}
 use Rattle.project.specs.Flawed.{Loose, Flaw, FirstFlaw}
 
 -- a lawful plan has no flaw
-no-flaw : (p : Plan) → Lawful p → (f : Fault) → Flaw p f → ⊥
+pub no-flaw : (p : Plan) → Lawful p → (f : Fault) → Flaw p f → ⊥
 no-flaw p l (Fault.Bytes c k) w = w
 no-flaw p l (Fault.Records Field k) w = w
 no-flaw p l (Fault.Records Order k) w = l .rising k w

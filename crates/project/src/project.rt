@@ -3,6 +3,7 @@ ghost use Rattle.project.specs.Lines.{line-of};
 use image::draft::Draft;
 use paths::Span;
 
+mod fresh;
 mod lookups;
 mod making;
 mod reading;
