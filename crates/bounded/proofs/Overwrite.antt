@@ -1,10 +1,10 @@
 -- A loop that writes a list over an array, one place after the other.
 use Prim.Native.Nat.{ℕ, _+_, _-_, _<_, _≤_}
-use mathlib.Core.Path.{_≡_, refl, sym, _∙_, ap}
+use mathlib.Core.Path.{_≡_, refl, sym, _∙_}
 use mathlib.Core.List.{List, [], _∷_, _++_}
 use native.Mathlib.Omega.{arith}
 use lib.ListN.{length, take, drop, getD, set}
-use Rattle.std.proofs.shelf.Lists.{take-append-drop, length-append, length-take-le, length-drop, take-more, drop-more, set-at, getD-append-right, getD-drop, take-at, take-all, take-take, append-assoc}
+use Rattle.std.proofs.shelf.Lists.{take-append-drop, length-take-le, take-more, drop-more, set-at, getD-append-right, getD-drop, take-at, take-all, take-take, append-assoc}
 
 -- xs, with the first k records of ys in its first k places
 abbrev pub over : {A : Type 0} → List A → List A → ℕ → List A
@@ -15,10 +15,10 @@ over-none ys xs k same = rw same (sym (take-append-drop k xs))
 
 pub over-more : {A : Type 0} (ys xs zs : List A) (k : ℕ) (v : A)
     → k < length ys → k < length xs → zs ≡ over ys xs k → v ≡ getD ys k v → set zs k v ≡ over ys xs (k + 1)
-over-more {A = A} ys xs zs k v in-ys in-xs is read =
+over-more ys xs zs k v in-ys in-xs is read =
     let l : length (take k ys) ≡ k = length-take-le k ys (omega arith) in
-    let s : set zs k v ≡ take k ys ++ v ∷ drop (k + 1) xs =
-        rw (is, drop-more xs k v in-xs) (set-at (take k ys) (getD xs k v) (drop (k + 1) xs) v k l) in
+    let at = set-at (take k ys) (getD xs k v) (drop (k + 1) xs) v k l in
+    let s : set zs k v ≡ take k ys ++ v ∷ drop (k + 1) xs = rw (is, drop-more xs k v in-xs) at in
     let t : take (k + 1) ys ≡ take k ys ++ v ∷ [] = rw read (take-more ys k v in-ys) in
     s ∙ rw t (sym (append-assoc (take k ys) (v ∷ []) (drop (k + 1) xs)))
 

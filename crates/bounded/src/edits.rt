@@ -1,7 +1,6 @@
 // Edits of a list at a place of the caller's choice.
 ghost use mathlib.Core.Path.{_≡_};
 ghost use mathlib.Core.Bool.{cond};
-ghost use Prim.Native.Nat.{_≤_};
 ghost use lib.Dec.{ltb};
 ghost use lib.ListN.{length, set};
 ghost use Rattle.std.specs.shelf.Maps.{nth};
@@ -16,7 +15,7 @@ impl<T: Copy, const N: usize> Bounded<T, N> {
     // Whether there is a record at i, which x then replaces.
     pub fn set(&mut self, i: usize, x: T) -> bool
         ensures answer { λ r. ⌜ r ≡ ltb i (length (held (now (self .entry)))) ⌝ }
-        ensures after { λ _. ⌜ held (now (self .exit)) ≡ set (held (now (self .entry))) i x ⌝ }
+        ensures after { λ r. ⌜ held (now (self .exit)) ≡ cond r (set (held (now (self .entry))) i x) (held (now (self .entry))) ⌝ }
     {
         if i >= self.len {
             return false;
@@ -48,21 +47,28 @@ impl<T: Copy, const N: usize> Bounded<T, N> {
         Ok(())
     }
 
-    // Takes the record at i, and moves those behind it one place up.
+    // Takes the record at i, if there is one, and moves those behind it one place up.
     pub fn remove(&mut self, i: usize) -> Option<T>
         ensures answer { λ r. ⌜ r ≡ nth (held (now (self .entry))) i ⌝ }
         ensures after { λ _. ⌜ held (now (self .exit)) ≡ removed (held (now (self .entry))) i ⌝ }
     {
+        let gone = self.get(i);
+        self.close_up(i);
+        gone
+    }
+
+    // Writes each record behind i over the one before it. Past the end there is none to go.
+    fn close_up(&mut self, i: usize)
+        ensures { λ _. ⌜ held (now (self .exit)) ≡ removed (held (now (self .entry))) i ⌝ }
+    {
         let n = self.len;
         if i >= n {
-            return None;
+            return;
         }
-        let gone = self.items[i];
         for k in i..n - 1 {
             self.items[k] = self.items[k + 1];
         }
         self.len = n - 1;
-        Some(gone)
     }
 
     // Drops each record that s wants, and keeps the others in their order.

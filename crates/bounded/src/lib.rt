@@ -6,6 +6,8 @@ ghost use lib.ListN.{length};
 mod edits;
 mod methods;
 mod select;
+#[cfg(test)]
+mod tests;
 
 pub use select::Select;
 

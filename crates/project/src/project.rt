@@ -7,6 +7,7 @@ mod fresh;
 mod lookups;
 mod making;
 mod reading;
+mod writing;
 
 // A line that keeps every rule, with its distances and waits.
 #[derive(Copy)]

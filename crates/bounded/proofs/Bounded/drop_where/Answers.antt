@@ -1,7 +1,6 @@
 use borrow.Author.Needs.{needs}
 use native.Mathlib.Omega.{arith}
 use Rattle.std.proofs.shelf.Lists.{getD-default}
-use Rattle.std.proofs.shelf.Tests.{not-from-true, not-from-false}
 use Rattle.std.proofs.shelf.Filters.{keeping-more-no, keeping-more-set}
 use Rattle.bounded.proofs.Bounded.drop_where.Needs as need
 

@@ -3,7 +3,7 @@ use lib.ListN.{length}
 use Rattle.std.specs.shelf.Lists.{removed}
 use Rattle.bounded.specs.Held.{held}
 use Rattle.bounded.proofs.Overwrite.{over}
-use Rattle.bounded.proofs.Bounded.remove.Given as given
+use Rattle.bounded.proofs.Bounded.close_up.Given as given
 
 abbrev pub Inv-loop-k : given.InvT-loop-k
 Inv-loop-k g l =
