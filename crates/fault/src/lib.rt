@@ -1,6 +1,7 @@
 // Every refusal of the product, by layer, cause and place.
 ghost use mathlib.Core.Path.{_≡_};
 ghost use Rattle.fault.specs.Table.{entry, place-of, layer-name, of-bytes, of-records, of-graph, of-run};
+use std::fmt;
 
 // Where in the product a refusal was made.
 #[derive(Clone, Copy, PartialEq, Eq, Debug)]
@@ -279,5 +280,16 @@ impl Fault {
             Fault::Graph(_, place) => place,
             Fault::Run(_, place) => place,
         }
+    }
+}
+
+// As every program prints a refusal; the words may follow.
+pub impl fmt::Display for Fault as FaultDisplay {
+    fn fmt<W: fmt::Write>(&self, f: &mut fmt::Formatter<W>) -> fmt::Result {
+        let number = self.number();
+        let name = self.name();
+        let layer = self.layer().name();
+        let place = self.place();
+        write!(f, "refused {number} {name}, layer {layer}, place {place}")
     }
 }

@@ -3,3 +3,4 @@ pub mod Plan
 pub mod Paths
 pub mod Rules
 pub mod Times
+pub mod Names

@@ -1,2 +1,3 @@
-// The words of a packaging line: what its actors do, how they are wired, and how large a line may be.
+// The words of a packaging line: what its actors do, how they are wired, and what its rules say.
+mod names;
 pub mod parts;

@@ -20,10 +20,10 @@ use line::parts::Source;
 
 impl Project {
     // How many sensors there are.
-    pub fn sensors(&self) -> usize
+    pub fn sensors(&self) -> u8
         ensures { λ r. ⌜ r ≡ length (plan (now (self .entry)) .sensors) ⌝ }
     {
-        self.draft.sensors.len()
+        self.draft.sensors.len() as u8
     }
 
     // The actors, by number.
@@ -34,10 +34,10 @@ impl Project {
     }
 
     // How many actuators there are.
-    pub fn actuators(&self) -> usize
+    pub fn actuators(&self) -> u8
         ensures { λ r. ⌜ r ≡ plan (now (self .entry)) .actuators ⌝ }
     {
-        self.draft.actuators as usize
+        self.draft.actuators
     }
 
     // The channels, in their order.
