@@ -1,0 +1,4 @@
+mod Holdings
+mod Starts
+mod Scaling
+mod Table
