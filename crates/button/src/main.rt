@@ -23,7 +23,10 @@ fn main(rt: LibcRuntime) -> Result<(), AnyError> {
 }
 
 fn explain(rt: &LibcRuntime) -> Result<(), AnyError> {
-    println!(rt, "button OLD NEW: reports on two project images and says whether NEW is to be downloaded")?;
+    println!(
+        rt,
+        "button OLD NEW: reports on two project images and says whether NEW is to be downloaded"
+    )?;
     println!(rt, "button IMAGE:   reports on one project image")?;
     Ok(())
 }
@@ -87,14 +90,20 @@ fn report_actor(rt: &LibcRuntime, project: &Project, number: usize) -> Result<()
         let delay = project.delay(number, 0);
         let wait = project.wait(number).unwrap_or(0);
         let deadline = project.deadline(number).unwrap_or(0);
-        println!(rt, "  actor {number}: {kind}, parameter {parameter}, delay {delay}, wait {wait}, deadline {deadline}")?;
+        println!(
+            rt,
+            "  actor {number}: {kind}, parameter {parameter}, delay {delay}, wait {wait}, deadline {deadline}"
+        )?;
     }
     Ok(())
 }
 
 fn report_actuator(rt: &LibcRuntime, project: &Project, actuator: u8) -> Result<(), AnyError> {
     if let Some(Source::Outlet { actor, outlet }) = project.origin(actuator) {
-        println!(rt, "  actuator {actuator}: from actor {actor} outlet {outlet}")?;
+        println!(
+            rt,
+            "  actuator {actuator}: from actor {actor} outlet {outlet}"
+        )?;
     }
     Ok(())
 }

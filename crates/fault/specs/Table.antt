@@ -23,13 +23,13 @@ pub record Refusal : Type 0 where
   pub words : List ℕ
 
 abbrev pub of-bytes : BytesCause → Refusal
-of-bytes Head = record { number = 1; layer = Bytes; name = codes "Head"; words = codes "the image does not begin with LIN and version 1" }
+of-bytes Head = record { number = 1; layer = Bytes; name = codes "Head"; words = codes "the image does not begin with LIN, version 1 and four counts" }
 of-bytes Count = record { number = 2; layer = Bytes; name = codes "Count"; words = codes "a count is out of range" }
 of-bytes Length = record { number = 3; layer = Bytes; name = codes "Length"; words = codes "the image has another length than its counts ask for" }
 
 abbrev pub of-records : RecordsCause → Refusal
-of-records Field = record { number = 4; layer = Records; name = codes "Field"; words = codes "a field is out of range" }
-of-records Order = record { number = 5; layer = Records; name = codes "Order"; words = codes "a channel does not stand above the one before it" }
+of-records Field = record { number = 4; layer = Records; name = codes "Field"; words = codes "a field is out of range or against a rule of channels" }
+of-records Order = record { number = 5; layer = Records; name = codes "Order"; words = codes "a channel does not come after the one before it in the order of sources" }
 of-records Sink = record { number = 6; layer = Records; name = codes "Sink"; words = codes "a channel ends where an earlier one ends" }
 
 abbrev pub of-graph : GraphCause → Refusal
@@ -46,8 +46,8 @@ of-run Back = record { number = 14; layer = Run; name = codes "Back"; words = co
 of-run Horizon = record { number = 15; layer = Run; name = codes "Horizon"; words = codes "the time lies beyond the horizon" }
 of-run Due = record { number = 16; layer = Run; name = codes "Due"; words = codes "an output is due before the new clock" }
 of-run Nothing = record { number = 17; layer = Run; name = codes "Nothing"; words = codes "there is nothing to do" }
-of-run Early = record { number = 18; layer = Run; name = codes "Early"; words = codes "an earlier event may still come from a sensor" }
-of-run Behind = record { number = 19; layer = Run; name = codes "Behind"; words = codes "an earlier event may still come from a waiting one" }
+of-run Early = record { number = 18; layer = Run; name = codes "Early"; words = codes "an event that is no later may still come from a sensor" }
+of-run Behind = record { number = 19; layer = Run; name = codes "Behind"; words = codes "an event that is no later may still come from a waiting one" }
 of-run NotSooner = record { number = 20; layer = Run; name = codes "Not sooner"; words = codes "the deadline is not below that of the running firing" }
 
 abbrev pub entry : Fault → Refusal

@@ -99,7 +99,7 @@ impl BytesCause {
         ensures { λ r. ⌜ now r ≡ of-bytes self .words ⌝ }
     {
         match self {
-            BytesCause::Head => "the image does not begin with LIN and version 1",
+            BytesCause::Head => "the image does not begin with LIN, version 1 and four counts",
             BytesCause::Count => "a count is out of range",
             BytesCause::Length => "the image has another length than its counts ask for",
         }
@@ -131,8 +131,9 @@ impl RecordsCause {
         ensures { λ r. ⌜ now r ≡ of-records self .words ⌝ }
     {
         match self {
-            RecordsCause::Field => "a field is out of range",
-            RecordsCause::Order => "a channel does not stand above the one before it",
+            RecordsCause::Field => "a field is out of range or against a rule of channels",
+            RecordsCause::Order =>
+                "a channel does not come after the one before it in the order of sources",
             RecordsCause::Sink => "a channel ends where an earlier one ends",
         }
     }
@@ -219,8 +220,8 @@ impl RunCause {
             RunCause::Horizon => "the time lies beyond the horizon",
             RunCause::Due => "an output is due before the new clock",
             RunCause::Nothing => "there is nothing to do",
-            RunCause::Early => "an earlier event may still come from a sensor",
-            RunCause::Behind => "an earlier event may still come from a waiting one",
+            RunCause::Early => "an event that is no later may still come from a sensor",
+            RunCause::Behind => "an event that is no later may still come from a waiting one",
             RunCause::NotSooner => "the deadline is not below that of the running firing",
         }
     }

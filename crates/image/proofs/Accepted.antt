@@ -108,16 +108,15 @@ pub actor-same : (x y : Actor) → Possible x → Possible y → actor-bytes x �
 actor-same x y h h′ e =
     let k : x .kind ≡ y .kind = sym (kind-back (x .kind)) ∙ ap (λ s. kind-at (getD s 0 0)) e ∙ kind-back (y .kind) in
     let w : ofZ w32 (x .parameter) ≡ ofZ w32 (y .parameter)
-          = sym (bits (x .parameter) (h .number)) ∙ ap (λ s. val (take 4 (drop 1 s))) e ∙ bits (y .parameter) (h′ .number) in
+    = sym (bits (x .parameter) (h .number)) ∙ ap (λ s. val (take 4 (drop 1 s))) e ∙ bits (y .parameter) (h′ .number) in
     let p : x .parameter ≡ y .parameter
-          = sym (toZ-ofZ w32 _ (word-fits _ (h .number))) ∙ ap (toZ w32) w ∙ toZ-ofZ w32 _ (word-fits _ (h′ .number)) in
+    = sym (toZ-ofZ w32 _ (word-fits _ (h .number))) ∙ ap (toZ w32) w ∙ toZ-ofZ w32 _ (word-fits _ (h′ .number)) in
     let d : x .delay ≡ y .delay = sym (four (x .delay) (h .delay)) ∙ ap (λ s. val (take 4 (drop 5 s))) e ∙ four (y .delay) (h′ .delay) in
     λ i. record { kind = k i; parameter = p i; delay = d i }
 
 -- channels
 
 module _ (n : Counts) (p : Plan) (fits : Counted n p) where
-
   source-clean : (x : Source) (a b c : ℕ) → Begins p x → source-bytes x ≡ a ∷ b ∷ c ∷ [] → Nowhere (BadSource n a b c)
   source-clean (Sensor s) a b c h e k bad = grind (arith, fits .sensors, fits .actors)
   source-clean (Outlet s o) a b c h e k bad = grind (arith, fits .sensors, fits .actors)
@@ -134,12 +133,12 @@ pub channel-clean : (bs : List ℕ) (b : ℕ) (p : Plan) (x : Channel) → Count
 channel-clean bs b p x fits room h e k bad =
     let six = e ∙ sym (bytes-six bs b room) in
     let source : source-bytes (x .source) ≡ byte bs b ∷ byte bs (b + 1) ∷ byte bs (b + 2) ∷ []
-          = sym (take-at (source-bytes (x .source)) (sink-bytes (x .sink)) 3 (length-source (x .source))) ∙ ap (take 3) six in
+    = sym (take-at (source-bytes (x .source)) (sink-bytes (x .sink)) 3 (length-source (x .source))) ∙ ap (take 3) six in
     let sink : sink-bytes (x .sink) ≡ byte bs (b + 3) ∷ byte bs (b + 4) ∷ byte bs (b + 5) ∷ []
-          = sym (drop-at (source-bytes (x .source)) (sink-bytes (x .sink)) 3 (length-source (x .source))) ∙ ap (drop 3) six in
+    = sym (drop-at (source-bytes (x .source)) (sink-bytes (x .sink)) 3 (length-source (x .source))) ∙ ap (drop 3) six in
     ⊎-elim (source-clean (counts-at bs) p fits (x .source) _ _ _ (h .source) source k)
-      (sink-clean (counts-at bs) p fits (x .source) (x .sink) _ _ _ (h .sink) (h .no-bypass) sink k)
-      (fields bs b (counts-at bs) refl (source-sort (x .source)) (sort-of (x .source) source) .back k bad)
+    (sink-clean (counts-at bs) p fits (x .source) (x .sink) _ _ _ (h .sink) (h .no-bypass) sink k)
+    (fields bs b (counts-at bs) refl (source-sort (x .source)) (sort-of (x .source) source) .back k bad)
 
 source-same : (x y : Source) → source-bytes x ≡ source-bytes y → x ≡ y
 source-same (Sensor s) (Sensor t) e = cc
@@ -156,7 +155,7 @@ sink-same (Actuator s) (Actuator t) e = cc
 pub channel-same : (x y : Channel) → channel-bytes x ≡ channel-bytes y → x ≡ y
 channel-same x y e =
     let s = source-same (x .source) (y .source)
-          (sym (take-at _ (sink-bytes (x .sink)) 3 (length-source (x .source))) ∙ ap (take 3) e ∙ take-at _ (sink-bytes (y .sink)) 3 (length-source (y .source))) in
+    (sym (take-at _ (sink-bytes (x .sink)) 3 (length-source (x .source))) ∙ ap (take 3) e ∙ take-at _ (sink-bytes (y .sink)) 3 (length-source (y .source))) in
     let t = sink-same (x .sink) (y .sink)
-          (sym (drop-at (source-bytes (x .source)) _ 3 (length-source (x .source))) ∙ ap (drop 3) e ∙ drop-at (source-bytes (y .source)) _ 3 (length-source (y .source))) in
+    (sym (drop-at (source-bytes (x .source)) _ 3 (length-source (x .source))) ∙ ap (drop 3) e ∙ drop-at (source-bytes (y .source)) _ 3 (length-source (y .source))) in
     λ i. record { source = s i; sink = t i }

@@ -39,7 +39,6 @@ room x bs b n l h e =
     omega (arith, simp (length-take, length-drop) at m)
 
 module _ (p : Plan) (s : Sized p) (r : Ranged p) where
-
   no-mark : Nowhere (Unmarked (image p))
   no-mark k = ⊎-elim (λ b. b .2 (getD-append-left mark (counts p ++ records p) 0 k (b .0))) (λ b. omega (arith, b .0, image-length p))
 
@@ -53,7 +52,7 @@ module _ (p : Plan) (s : Sized p) (r : Ranged p) where
   no-count : Nowhere (Uncounted (image p))
   no-count k (i, l, e, o) =
       let there : byte (image p) (5 + i) ≡ getD (counts p) i 0
-            = getD-append-add mark (counts p ++ records p) i 0 ∙ getD-append-left (counts p) (records p) 0 i l in
+      = getD-append-add mark (counts p ++ records p) i 0 ∙ getD-append-left (counts p) (records p) 0 i l in
       let here : byte (image p) k ≡ getD (counts p) i 0 = ap (byte (image p)) e ∙ there in
       ⊎-elim (λ z. omega (arith, here, counted i l)) (λ z. omega (arith, here, counted i l)) o
 
@@ -63,15 +62,15 @@ module _ (p : Plan) (s : Sized p) (r : Ranged p) where
   no-field : Nowhere (BadField (image p))
   no-field k = ⊎-elim
       (λ b. row-clean sensor-bytes 4 (λ x. refl) (image p) BadSensorField (p .sensors) 9 0 (sensors-at p)
-        (λ i at l. sensor-clean (image p) at (getD (p .sensors) i 0) (r .latenesses i l)) k (sensors (image p) .back k b))
+      (λ i at l. sensor-clean (image p) at (getD (p .sensors) i 0) (r .latenesses i l)) k (sensors (image p) .back k b))
       (⊎-elim
-        (row-clean actor-bytes 9 (λ x. refl) (image p) BadActorField (p .actors) _ nobody (actors-at p)
-          (λ i at l. actor-clean (image p) at (getD (p .actors) i nobody) (r .actors i l)) k)
-        (row-clean channel-bytes 6 length-channel (image p) BadChannelField (p .channels) _ no-channel (channels-at p)
-          (λ i at l e.
-            let x = getD (p .channels) i no-channel in
-            channel-clean (image p) at p x fits (room _ (image p) at 6 (length-channel x) (omega arith) e) (r .channels x (in-getD (p .channels) i no-channel l)) e)
-          k))
+      (row-clean actor-bytes 9 (λ x. refl) (image p) BadActorField (p .actors) _ nobody (actors-at p)
+      (λ i at l. actor-clean (image p) at (getD (p .actors) i nobody) (r .actors i l)) k)
+      (row-clean channel-bytes 6 length-channel (image p) BadChannelField (p .channels) _ no-channel (channels-at p)
+      (λ i at l e.
+      let x = getD (p .channels) i no-channel in
+      channel-clean (image p) at p x fits (room _ (image p) at 6 (length-channel x) (omega arith) e) (r .channels x (in-getD (p .channels) i no-channel l)) e)
+      k))
 
   pub sound-image : (f : Fault) → entry f .number ≤ 4 → Faulty (image p) f → ⊥
   sound-image (Fault.Bytes Head k) h x = no-mark k x
@@ -92,9 +91,9 @@ same-rows : {X : Type 0} (f : X → List ℕ) (w : ℕ) → ((x : X) → length 
     → ((i : ℕ) → i < length xs → i < length ys → f (getD xs i d) ≡ f (getD ys i d) → getD xs i d ≡ getD ys i d) → xs ≡ ys
 same-rows f w even xs ys bs cs at to d same here many e g apart =
     ext-getD d xs ys many (λ i l.
-      let l′ : i < length ys = omega arith in
-      let there : between (at + w * i) w bs ≡ between (to + w * i) w cs = cc in
-      apart i l l′ (row-at f w even bs xs at i d e l ∙ there ∙ sym (row-at f w even cs ys to i d g l′)))
+    let l′ : i < length ys = omega arith in
+    let there : between (at + w * i) w bs ≡ between (to + w * i) w cs = cc in
+    apart i l l′ (row-at f w even bs xs at i d e l ∙ there ∙ sym (row-at f w even cs ys to i d g l′)))
 
 pub one-plan : (p q : Plan) → Sized p → Ranged p → Sized q → Ranged q → image p ≡ image q → p ≡ q
 one-plan p q s r s′ r′ e =
@@ -104,9 +103,9 @@ one-plan p q s r s′ r′ e =
     let a : 9 + 4 * length (p .sensors) ≡ 9 + 4 * length (q .sensors) = omega arith in
     let c : 9 + 4 * length (p .sensors) + 9 * length (p .actors) ≡ 9 + 4 * length (q .sensors) + 9 * length (q .actors) = omega arith in
     let sensors = same-rows sensor-bytes 4 (λ x. refl) (p .sensors) (q .sensors) (image p) (image q) 9 9 0 e refl ls
-          (sensors-at p) (sensors-at q) (λ i l l′. sensor-same _ _ (r .latenesses i l) (r′ .latenesses i l′)) in
+    (sensors-at p) (sensors-at q) (λ i l l′. sensor-same _ _ (r .latenesses i l) (r′ .latenesses i l′)) in
     let actors = same-rows actor-bytes 9 (λ x. refl) (p .actors) (q .actors) (image p) (image q) _ _ nobody e a la
-          (actors-at p) (actors-at q) (λ i l l′. actor-same _ _ (r .actors i l) (r′ .actors i l′)) in
+    (actors-at p) (actors-at q) (λ i l l′. actor-same _ _ (r .actors i l) (r′ .actors i l′)) in
     let channels = same-rows channel-bytes 6 length-channel (p .channels) (q .channels) (image p) (image q) _ _ no-channel e c lc
-          (channels-at p) (channels-at q) (λ i l l′. channel-same _ _) in
+    (channels-at p) (channels-at q) (λ i l l′. channel-same _ _) in
     λ i. record { sensors = sensors i; actors = actors i; actuators = byte (e i) 7; channels = channels i }

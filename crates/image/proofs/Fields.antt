@@ -43,20 +43,20 @@ pub actor-fields : (bs : List ℕ) (b : ℕ) (z : ℤ) (d : ℕ) → SFits w32 z
     → ofZ w32 z ≡ val (between (b + 1) 4 bs) → d ≡ val (between (b + 5) 4 bs)
     → Same (BadActorOf (byte bs b) z d) (BadActorField bs b)
 actor-fields bs b z d f p q = record {
-    to = λ k. ⊎-elim inl (⊎-elim
+  to = λ k. ⊎-elim inl (⊎-elim
       (λ x. inr (inl (x .0, x .1, λ e. x .2 (zero-bits z f (p ∙ e)))))
       (λ x. inr (inr (x .0, subst (λ (n : ℕ). longest < n) q (x .1)))));
-    back = λ k. ⊎-elim inl (⊎-elim
+  back = λ k. ⊎-elim inl (⊎-elim
       (λ x. inr (inl (x .0, x .1, λ e. x .2 (sym p ∙ ap (ofZ w32) e))))
       (λ x. inr (inr (x .0, subst (λ (n : ℕ). longest < n) (sym q) (x .1)))));
-  }
+}
 
 pub nine-at : (bs : List ℕ) (b : ℕ) (x y : List ℕ) → b + 9 ≤ length bs
     → x ≡ between (b + 1) 4 bs → y ≡ between (b + 5) 4 bs → byte bs b ∷ (x ++ y) ≡ between b 9 bs
 nine-at bs b x y h p q =
     let first : between b 9 bs ≡ byte bs b ∷ between (b + 1) 8 bs = ap (take 9) (drop-more bs b 0 (omega arith)) in
     let rest : between (b + 1) 8 bs ≡ between (b + 1) 4 bs ++ between (b + 5) 4 bs
-          = between-add (b + 1) 4 4 (b + 5) bs (omega arith) in
+    = between-add (b + 1) 4 4 (b + 5) bs (omega arith) in
     cc
 
 -- the six places of a channel: three of its source, three of its sink
@@ -92,7 +92,6 @@ pub six-at : (bs : List ℕ) (b : ℕ) (x y : List ℕ) → b + 6 ≤ length bs
 six-at bs b x y h p q = rw (p, q) (bytes-six bs b h)
 
 module _ (bs : List ℕ) (b : ℕ) (n : Counts) (counted : n ≡ counts-at bs) where
-
   abbrev Src : Counts → ℕ → Type 0
   Src m k = BadSource m (byte bs b) (byte bs (b + 1)) (byte bs (b + 2)) k
 
@@ -103,7 +102,7 @@ module _ (bs : List ℕ) (b : ℕ) (n : Counts) (counted : n ≡ counts-at bs) w
   fields from e =
       subst (λ (m : Counts). Same (λ k. Src m k ⊎ Snk m from k) (BadChannelField bs b)) (sym counted)
       (subst (λ (f : ℕ). Same (λ k. Src (counts-at bs) k ⊎ Snk (counts-at bs) f k) (BadChannelField bs b)) (sym e)
-        record { to = λ k. join; back = λ k. part })
+      record { to = λ k. join; back = λ k. part })
 
   late : (from k : ℕ) → Snk n from k → 3 ≤ k
   late from k = ⊎-elim (λ x. omega (arith, x .0)) (⊎-elim (λ x. omega (arith, x .0)) (λ x. omega (arith, x .0)))

@@ -30,11 +30,10 @@ all-in P (y ∷ ys) x a (inl e) = subst P (sym e) (a .0)
 all-in P (y ∷ ys) x a (inr i) = all-in P ys x (a .1) i
 
 module _ (bs : List ℕ) (long : 9 ≤ length bs) where
-
   marked : Nowhere (Unmarked bs) → between 0 5 bs ≡ mark
   marked none =
       let at : (k : ℕ) → k < 5 → byte bs k ≡ byte mark k
-            = λ k l. ⊎-elim (λ e. e) (λ n. absurd (none k (inl (l, omega arith, n)))) (cases-eq (byte bs k) (byte mark k)) in
+      = λ k l. ⊎-elim (λ e. e) (λ n. absurd (none k (inl (l, omega arith, n)))) (cases-eq (byte bs k) (byte mark k)) in
       let a = at 0 (omega arith) in
       let b = at 1 (omega arith) in
       let c = at 2 (omega arith) in
@@ -44,23 +43,24 @@ module _ (bs : List ℕ) (long : 9 ≤ length bs) where
       cc
 
   in-range : Nowhere (Uncounted bs) → (i : ℕ) → i < 4 → (1 ≤ byte bs (5 + i)) × (byte bs (5 + i) ≤ most i)
-  in-range none i l =
-      (⊎-elim (λ (z : byte bs (5 + i) < 1). absurd (none (5 + i) (i, l, refl, inl (omega arith)))) (λ h. h) (cases-lt (byte bs (5 + i)) 1),
-        ⊎-elim (λ h. absurd (none (5 + i) (i, l, refl, inr h))) (λ h. h) (cases-lt (most i) (byte bs (5 + i))))
+  in-range none i l = (
+    ⊎-elim (λ (z : byte bs (5 + i) < 1). absurd (none (5 + i) (i, l, refl, inl (omega arith)))) (λ h. h) (cases-lt (byte bs (5 + i)) 1),
+    ⊎-elim (λ h. absurd (none (5 + i) (i, l, refl, inr h))) (λ h. h) (cases-lt (most i) (byte bs (5 + i))),
+  )
 
   fits : Nowhere (Unfit bs) → length bs ≡ size (byte bs 5) (byte bs 6) (byte bs 8)
   fits none = ⊎-elim (λ e. e) (λ n. absurd (none _ (refl, n))) (cases-eq (length bs) (size (byte bs 5) (byte bs 6) (byte bs 8)))
 
   pub fronted : (n : Counts) → n ≡ counts-at bs → Nowhere (Unmarked bs) → Nowhere (Uncounted bs) → Nowhere (Unfit bs) → Fronted bs n
   fronted n e head count len = subst (Fronted bs) (sym e) record {
-      marked = marked head;
-      counted = refl;
-      sensors = in-range count 0 (omega arith);
-      actors = in-range count 1 (omega arith);
-      actuators = in-range count 2 (omega arith);
-      channels = in-range count 3 (omega arith);
-      whole = fits len;
-    }
+    marked = marked head;
+    counted = refl;
+    sensors = in-range count 0 (omega arith);
+    actors = in-range count 1 (omega arith);
+    actuators = in-range count 2 (omega arith);
+    channels = in-range count 3 (omega arith);
+    whole = fits len;
+  }
 
 -- the parts of an image, one behind the other, are the image
 pub whole : (bs : List ℕ) (p : Plan) → Fronted bs (counts-at bs) → counts p ≡ between 5 4 bs
@@ -79,7 +79,7 @@ whole bs p front numbers sensors actors channels =
     let head : between 0 9 bs ≡ mark ++ counts p = between-add 0 5 4 5 bs refl ∙ cc (front .marked) in
     all ∙ three ∙ ap (λ x. x ++ between (9 + s + a) c bs) (two ∙ ap (λ x. x ++ between (9 + s) a bs) one)
     ∙ rw (head, ← sensors, ← actors, ← channels) (ap (λ x. mark ++ (counts p ++ x))
-        (append-assoc (joined sensor-bytes (p .sensors)) (joined actor-bytes (p .actors)) (joined channel-bytes (p .channels))))
+    (append-assoc (joined sensor-bytes (p .sensors)) (joined actor-bytes (p .actors)) (joined channel-bytes (p .channels))))
 
 -- what the parts of a reading give together
 pub drafted : (bs : List ℕ) (n : Counts) (d : Draft) → Fronted bs n → d .actuators ≡ n .actuators
@@ -95,10 +95,10 @@ drafted bs n d front e sensors actors channels =
     let four = bytes-at bs 5 (5 ∷ 6 ∷ 7 ∷ 8 ∷ []) (refl, (refl, (refl, (refl, tt)))) (omega (arith, there .whole)) in
     let numbers : counts p ≡ between 5 4 bs = cc (sensors .many, actors .many, valves, channels .many) in
     let fits : Counted n p = record {
-          sensors = sensors .many ∙ ap (λ m. m .sensors) (sym same);
-          actors = actors .many ∙ ap (λ m. m .actors) (sym same);
-          actuators = e;
-        } in
+      sensors = sensors .many ∙ ap (λ m. m .sensors) (sym same);
+      actors = actors .many ∙ ap (λ m. m .actors) (sym same);
+      actuators = e;
+    } in
     record {
       spelt = whole bs p there numbers (sensors .spell) (actors .spell) (channels .spell);
       sized = record {

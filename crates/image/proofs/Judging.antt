@@ -11,16 +11,16 @@ use Rattle.image.specs.Reading.{Nowhere, Lowest, Judged}
 -- of two sorts of places, the lowest is of the first sort, since none of the second is below it
 pub low-left : (A B : ℕ → Type 0) (k : ℕ) → Lowest A k → ((j : ℕ) → B j → k ≤ j) → Lowest (λ j. A j ⊎ B j) k
 low-left A B k low later = record {
-    here = inl (low .here);
-    none-below = λ j l. ⊎-elim (low .none-below j l) (λ b. omega (arith, later j b));
-  }
+  here = inl (low .here);
+  none-below = λ j l. ⊎-elim (low .none-below j l) (λ b. omega (arith, later j b));
+}
 
 -- or of the second, since there is none of the first
 pub low-right : (A B : ℕ → Type 0) (k : ℕ) → Nowhere A → Lowest B k → Lowest (λ j. A j ⊎ B j) k
 low-right A B k none low = record {
-    here = inr (low .here);
-    none-below = λ j l. ⊎-elim (none j) (low .none-below j l);
-  }
+  here = inr (low .here);
+  none-below = λ j l. ⊎-elim (none j) (low .none-below j l);
+}
 
 -- P and Q hold of the same places
 pub record Same (P Q : ℕ → Type 0) : Type 0 where

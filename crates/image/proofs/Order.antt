@@ -18,17 +18,16 @@ use Rattle.image.specs.Refusals.{byte, actors-at, channels-at, Unmarked, Uncou
 use Rattle.image.proofs.Judging.{Same, lowest-same, low-left, low-right}
 
 module _ (bs : List ℕ) where
-
   abbrev BadSensors : ℕ → Type 0
   BadSensors k = BadRow BadSensorField 4 bs 9 (byte bs 5) k
 
   pub sensors : Same BadSensors (BadSensor bs)
   sensors = record {
-      to = λ k b.
+    to = λ k b.
         let e : k ≡ 9 + 4 * b .0 = omega (arith, b .3, b .4 .0) in
         (b .0, b .2, e, subst (λ (m : ℕ). longest < val (between m 4 bs)) (sym e) (b .4 .1));
-      back = λ k b. (b .0, 0, b .1, omega (arith, b .2), (refl, subst (λ (m : ℕ). longest < val (between m 4 bs)) (b .2) (b .3)));
-    }
+    back = λ k b. (b .0, 0, b .1, omega (arith, b .2), (refl, subst (λ (m : ℕ). longest < val (between m 4 bs)) (b .2) (b .3)));
+  }
 
   -- sensors come before actors, and these before channels
   pub sensor-low : (k : ℕ) → k < actors-at bs → Lowest BadSensors k → Lowest (BadField bs) k
@@ -73,28 +72,28 @@ module _ (bs : List ℕ) where
 
   pub first-head : (k : ℕ) → Lowest (Unmarked bs) k → First bs (Fault.Bytes Head k)
   first-head k low = record {
-      holds = low .here;
-      none-before = none-before 1 k (omega arith) (now 1 k (Unmarked bs) low)
+    holds = low .here;
+    none-before = none-before 1 k (omega arith) (now 1 k (Unmarked bs) low)
         (later 1 k 2 (Uncounted bs) (omega arith)) (later 1 k 3 (Unfit bs) (omega arith)) (later 1 k 4 (BadField bs) (omega arith));
-    }
+  }
 
   pub first-count : (k : ℕ) → Nowhere (Unmarked bs) → Lowest (Uncounted bs) k → First bs (Fault.Bytes Count k)
   first-count k head low = record {
-      holds = low .here;
-      none-before = none-before 2 k (omega arith) (λ j o. head j) (now 2 k (Uncounted bs) low)
+    holds = low .here;
+    none-before = none-before 2 k (omega arith) (λ j o. head j) (now 2 k (Uncounted bs) low)
         (later 2 k 3 (Unfit bs) (omega arith)) (later 2 k 4 (BadField bs) (omega arith));
-    }
+  }
 
   pub first-length : (k : ℕ) → Nowhere (Unmarked bs) → Nowhere (Uncounted bs) → Lowest (Unfit bs) k → First bs (Fault.Bytes Length k)
   first-length k head count low = record {
-      holds = low .here;
-      none-before = none-before 3 k (omega arith) (λ j o. head j) (λ j o. count j) (now 3 k (Unfit bs) low)
+    holds = low .here;
+    none-before = none-before 3 k (omega arith) (λ j o. head j) (λ j o. count j) (now 3 k (Unfit bs) low)
         (later 3 k 4 (BadField bs) (omega arith));
-    }
+  }
 
   pub first-field : (k : ℕ) → Nowhere (Unmarked bs) → Nowhere (Uncounted bs) → Nowhere (Unfit bs) → Lowest (BadField bs) k
       → First bs (Fault.Records Field k)
   first-field k head count len low = record {
-      holds = low .here;
-      none-before = none-before 4 k (omega arith) (λ j o. head j) (λ j o. count j) (λ j o. len j) (now 4 k (BadField bs) low);
-    }
+    holds = low .here;
+    none-before = none-before 4 k (omega arith) (λ j o. head j) (λ j o. count j) (λ j o. len j) (now 4 k (BadField bs) low);
+  }

@@ -28,11 +28,11 @@ put-put d s u at m h e =
     let n = m + length u in
     let lp : length p ≡ m = simp (length-append, length-take) (omega arith) in
     let whole : put d at s ≡ p ++ drop m d
-          = ap (λ k. take at d ++ (s ++ drop k d)) e ∙ sym (append-assoc (take at d) s (drop m d)) in
+    = ap (λ k. take at d ++ (s ++ drop k d)) e ∙ sym (append-assoc (take at d) s (drop m d)) in
     let front : take m (put d at s) ≡ p = ap (take m) whole ∙ take-at p (drop m d) m lp in
     let rest : drop m (put d at s) ≡ drop m d = ap (drop m) whole ∙ drop-at p (drop m d) m lp in
     let back : drop n (put d at s) ≡ drop n d
-          = sym (drop-drop (length u) m (put d at s)) ∙ ap (drop (length u)) rest ∙ drop-drop (length u) m d in
+    = sym (drop-drop (length u) m (put d at s)) ∙ ap (drop (length u)) rest ∙ drop-drop (length u) m d in
     let far : n ≡ at + length (s ++ u) = simp length-append (omega arith) in
     ap (λ x. x ++ (u ++ drop n (put d at s))) front
     ∙ ap (λ x. p ++ (u ++ x)) (back ∙ ap (λ k. drop k d) far)

@@ -26,7 +26,6 @@ pub one-more : (w i : ℕ) → w * (i + 1) ≡ w * i + w
 one-more w i = omega (arith, mul-suc w i, ap (λ k. w * k) (add-one i))
 
 module _ {X : Type 0} (f : X → List ℕ) (w : ℕ) (even : (x : X) → length (f x) ≡ w) where
-
   pub length-joined : (xs : List X) → length (joined f xs) ≡ w * length xs
   length-joined [] = sym (mul-zero w)
   length-joined (x ∷ xs) =
@@ -45,32 +44,33 @@ module _ {X : Type 0} (f : X → List ℕ) (w : ℕ) (even : (x : X) → length 
       ∙ ap (put d at) (joined-more f [] (take i xs) (getD xs i z) ∙ ap (joined f) (sym (take-more xs i z h)))
 
 module _ {X : Type 0} (f : X → List ℕ) (w : ℕ) (fine : X → Type 0) (bad : List ℕ → ℕ → ℕ → Type 0) (bs : List ℕ) (at : ℕ) where
-
   -- one record more is read
   pub got-more : (i : ℕ) (xs : List X) (x : X) → GotAll f w fine bad bs at i xs
       → Got f fine (bad bs (at + w * i)) (between (at + w * i) w bs) x → GotAll f w fine bad bs at (i + 1) (xs ++ x ∷ [])
   got-more i xs x all one = record {
-      many = length-push xs x ∙ ap (λ n. n + 1) (all .many);
-      spell = sym (joined-more f [] xs x) ∙ ap (λ s. s ++ f x) (all .spell)
+    many = length-push xs x ∙ ap (λ n. n + 1) (all .many);
+    spell = sym (joined-more f [] xs x) ∙ ap (λ s. s ++ f x) (all .spell)
         ∙ ap (λ s. between at (w * i) bs ++ s) (one .spells)
         ∙ sym (between-add at (w * i) w (at + w * i) bs refl) ∙ ap (λ n. between at n bs) (sym (one-more w i));
-      in-range = all-push fine xs x (all .in-range) (one .in-range);
-      clean = λ k b. ⊎-elim
+    in-range = all-push fine xs x (all .in-range) (one .in-range);
+    clean = λ k b. ⊎-elim
         (λ (e : b .0 ≡ i). one .clean (b .1) (subst (λ (m : ℕ). bad bs (at + w * m) (b .1)) e (b .4)))
         (λ o. all .clean k (b .0, b .1, ⊎-elim (λ (l : b .0 < i). l) (λ (l : i < b .0). absurd (omega (arith, b .2))) o, b .3, b .4))
         (cases-order (b .0) i);
-    }
+  }
 
   -- the next record has a bad field
   pub low-more : (i n j : ℕ) (xs : List X) → GotAll f w fine bad bs at i xs → i < n → j < w → Lowest (bad bs (at + w * i)) j
       → (at + w * i + j < at + w * n) × Lowest (BadRow bad w bs at n) (at + w * i + j)
-  low-more i n j xs all lt within low =
-      (omega (arith, before w i n lt), record {
-        here = (i, j, lt, refl, low .here);
-        none-below = λ k less b. ⊎-elim
+  low-more i n j xs all lt within low = (
+    omega (arith, before w i n lt),
+    record {
+      here = (i, j, lt, refl, low .here);
+      none-below = λ k less b. ⊎-elim
           (λ (e : b .0 ≡ i). low .none-below (b .1) (omega (arith, b .3, ap (λ m. w * m) e)) (subst (λ (m : ℕ). bad bs (at + w * m) (b .1)) e (b .4)))
           (⊎-elim
-            (λ (l : b .0 < i). all .clean k (b .0, b .1, l, b .3, b .4))
-            (λ (l : i < b .0). omega (arith, before w i (b .0) l, b .3)))
+          (λ (l : b .0 < i). all .clean k (b .0, b .1, l, b .3, b .4))
+          (λ (l : i < b .0). omega (arith, before w i (b .0) l, b .3)))
           (cases-order (b .0) i);
-      })
+    },
+  )

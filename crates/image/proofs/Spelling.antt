@@ -24,15 +24,15 @@ use Rattle.image.proofs.Rows.{length-joined}
 -- what begins a part, and what follows
 pub parts : (x s bs : List ℕ) (at w m : ℕ) → length x ≡ w → x ++ s ≡ between at (w + m) bs
     → (x ≡ between at w bs) × (s ≡ between (at + w) m bs)
-parts x s bs at w m l e =
-    (sym (take-at x s w l) ∙ ap (take w) e ∙ take-take w (w + m) (drop at bs) (omega arith),
-      sym (drop-at x s w l) ∙ ap (drop w) e ∙ drop-take w m (drop at bs) ∙ ap (take m) (drop-drop w at bs))
+parts x s bs at w m l e = (
+  sym (take-at x s w l) ∙ ap (take w) e ∙ take-take w (w + m) (drop at bs) (omega arith),
+  sym (drop-at x s w l) ∙ ap (drop w) e ∙ drop-take w m (drop at bs) ∙ ap (take m) (drop-drop w at bs),
+)
 
 pub byte-of : (bs : List ℕ) (at n k : ℕ) → k < n → byte bs (at + k) ≡ getD (between at n bs) k 0
 byte-of bs at n k l = sym (getD-take n (drop at bs) k 0 l ∙ getD-drop at bs k 0)
 
 module _ {X : Type 0} (f : X → List ℕ) (w : ℕ) (even : (x : X) → length (f x) ≡ w) (bs : List ℕ) where
-
   -- record i of a row
   pub row-at : (xs : List X) (at i : ℕ) (d : X) → joined f xs ≡ between at (w * length xs) bs → i < length xs
       → f (getD xs i d) ≡ between (at + w * i) w bs
@@ -64,7 +64,6 @@ pub length-channel : (x : Channel) → length (channel-bytes x) ≡ 6
 length-channel x = length-append (source-bytes (x .source)) (sink-bytes (x .sink)) ∙ omega (arith, length-source (x .source), length-sink (x .sink))
 
 module _ (p : Plan) where
-
   abbrev js : List ℕ
   js = joined sensor-bytes (p .sensors)
 

@@ -15,11 +15,11 @@ use Rattle.line.specs.Rules.{Sized, Ranged, Misplaced, Doubled, Idle, Unfed, Se
 use Rattle.image.specs.Bytes.{val, between}
 use Rattle.image.specs.Encoding.{image, mark, size}
 
--- byte k, and the counts by their offsets
+-- byte k; 0 past the end
 abbrev pub byte : List ℕ → ℕ → ℕ
 byte bs k = getD bs k 0
 
--- the greatest count at the offsets 5 to 8
+-- the greatest count of sensors, actors, actuators and channels
 abbrev pub most : ℕ → ℕ
 most k = getD (16 ∷ 32 ∷ 16 ∷ 96 ∷ []) k 0
 
@@ -75,17 +75,30 @@ BadChannel bs k = (i : ℕ) × (j : ℕ) × (i < byte bs 8) × (k ≡ channels-a
 abbrev pub Spells : List ℕ → (Plan → Type 0) → Type 0
 Spells bs P = (p : Plan) × (bs ≡ image p) × Sized p × Ranged p × P p
 
--- what each refusal of an image says
+-- a sensor feeds nothing, at its number, or an actuator is not fed, at 16 and its number
+abbrev pub Loose : Plan → ℕ → Type 0
+Loose p k = Idle p k ⊎ ((q : ℕ) × (k ≡ 16 + q) × Unfed p q)
+
+-- what each refusal says of a plan whose fields are in range
+abbrev pub Flaw : Plan → Fault → Type 0
+Flaw p (Fault.Bytes cause k) = ⊥
+Flaw p (Fault.Records Field k) = ⊥
+Flaw p (Fault.Records Order k) = Misplaced p k
+Flaw p (Fault.Records Sink k) = Doubled p k
+Flaw p (Fault.Graph Unwired k) = Loose p k
+Flaw p (Fault.Graph CutOff k) = Severed p k
+Flaw p (Fault.Graph ZeroLoop k) = Instant p k
+Flaw p (Fault.Run cause k) = ⊥
+
+-- what each refusal says of an image
 abbrev pub Faulty : List ℕ → Fault → Type 0
 Faulty bs (Fault.Bytes Head k) = Unmarked bs k
 Faulty bs (Fault.Bytes Count k) = Uncounted bs k
 Faulty bs (Fault.Bytes Length k) = Unfit bs k
 Faulty bs (Fault.Records Field k) = BadSensor bs k ⊎ (BadActor bs k ⊎ BadChannel bs k)
-Faulty bs (Fault.Records Order k) = Spells bs (λ p. Misplaced p k)
-Faulty bs (Fault.Records Sink k) = Spells bs (λ p. Doubled p k)
-Faulty bs (Fault.Graph Unwired k) = Spells bs (λ p. Idle p k ⊎ ((q : ℕ) × (k ≡ 16 + q) × Unfed p q))
-Faulty bs (Fault.Graph CutOff k) = Spells bs (λ p. Severed p k)
-Faulty bs (Fault.Graph ZeroLoop k) = Spells bs (λ p. Instant p k)
+Faulty bs (Fault.Records Order k) = Spells bs (λ p. Flaw p (Fault.Records Order k))
+Faulty bs (Fault.Records Sink k) = Spells bs (λ p. Flaw p (Fault.Records Sink k))
+Faulty bs (Fault.Graph cause k) = Spells bs (λ p. Flaw p (Fault.Graph cause k))
 Faulty bs (Fault.Run cause k) = ⊥
 
 -- f comes before g in the order of checks: by number, then by place

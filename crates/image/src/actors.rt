@@ -53,7 +53,11 @@ fn actor_of(number: u8, parameter: i32, delay: u32) -> Result<Actor, usize>
         (7.., _, _) => Err(0),
         (0..=3, p, _) if p != 0 => Err(1),
         (_, _, d) if d > LONGEST => Err(5),
-        _ => Ok(Actor { kind: kind_of(number), parameter, delay }),
+        _ => Ok(Actor {
+            kind: kind_of(number),
+            parameter,
+            delay,
+        }),
     }
 }
 

@@ -6,8 +6,11 @@ ghost use Rattle.image.specs.Encoding.{size};
 
 // How many bytes stand before the records, and how many each record has.
 pub(crate) const HEAD: usize = 9;
+
 pub(crate) const SENSOR_WIDTH: usize = 4;
+
 pub(crate) const ACTOR_WIDTH: usize = 9;
+
 pub(crate) const CHANNEL_WIDTH: usize = 6;
 
 #[derive(Clone, Copy, PartialEq, Eq, Debug)]

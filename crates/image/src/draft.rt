@@ -4,8 +4,11 @@ use line::parts::Actor;
 use line::parts::Channel;
 
 pub const MOST_SENSORS: usize = 16;
+
 pub const MOST_ACTORS: usize = 32;
+
 pub const MOST_ACTUATORS: u8 = 16;
+
 pub const MOST_CHANNELS: usize = 96;
 
 // Sensors by their lateness; actors and channels, each numbered from 0.

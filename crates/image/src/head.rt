@@ -21,7 +21,12 @@ use fault::Fault;
 pub(crate) const MARK: [u8; 5] = [b'L', b'I', b'N', 1, 0];
 
 // The greatest counts of sensors, actors, actuators and channels.
-const MOST: [u8; 4] = [MOST_SENSORS as u8, MOST_ACTORS as u8, MOST_ACTUATORS, MOST_CHANNELS as u8];
+const MOST: [u8; 4] = [
+    MOST_SENSORS as u8,
+    MOST_ACTORS as u8,
+    MOST_ACTUATORS,
+    MOST_CHANNELS as u8,
+];
 
 pub(crate) fn check_head(bytes: &[u8]) -> Result<(), Fault>
     ensures checked { λ r. ⌜ Checked (λ k. Fault.Bytes Head k) (Unmarked (now (bytes .entry))) r ⌝ }
@@ -49,7 +54,12 @@ pub(crate) fn check_counts(bytes: &[u8]) -> Result<Counts, Fault>
             return Err(Fault::Bytes(BytesCause::Count, at as u64));
         }
     }
-    Ok(Counts { sensors: bytes[5], actors: bytes[6], actuators: bytes[7], channels: bytes[8] })
+    Ok(Counts {
+        sensors: bytes[5],
+        actors: bytes[6],
+        actuators: bytes[7],
+        channels: bytes[8],
+    })
 }
 
 pub(crate) fn check_length(bytes: &[u8], counts: Counts) -> Result<(), Fault>

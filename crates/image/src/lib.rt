@@ -18,5 +18,4 @@ pub use parsing::parse;
 // Images tell plans apart, and none of a plan in range is refused for its bytes or fields.
 pub fn images_are_faithful()
     ensures { λ _. ⌜ Faithful ⌝ }
-{
-}
+{}

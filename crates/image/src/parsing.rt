@@ -21,17 +21,42 @@ use line::parts::Sink;
 use line::parts::Source;
 
 // What stands in the free places of a draft, and is never read.
-const NO_ACTOR: Actor = Actor { kind: Kind::Pass, parameter: 0, delay: 0 };
-const NO_CHANNEL: Channel = Channel { source: Source::Sensor(0), sink: Sink::Actuator(0) };
+const NO_ACTOR: Actor = Actor {
+    kind: Kind::Pass,
+    parameter: 0,
+    delay: 0,
+};
+
+const NO_CHANNEL: Channel = Channel {
+    source: Source::Sensor(0),
+    sink: Sink::Actuator(0),
+};
 
 fn read_records(bytes: &[u8], counts: Counts) -> Result<Draft, usize>
     requires { ⌜ Fronted (now bytes) counts ⌝ }
     ensures { λ r. ⌜ Cases r (Drafted (now (bytes .entry))) (Lowest (BadField (now (bytes .entry)))) ⌝ }
 {
     let sensors = read_all(bytes, HEAD, usize::from(counts.sensors), counts, 0)?;
-    let actors = read_all(bytes, counts.actors_at(), usize::from(counts.actors), counts, NO_ACTOR)?;
-    let channels = read_all(bytes, counts.channels_at(), usize::from(counts.channels), counts, NO_CHANNEL)?;
-    Ok(Draft { sensors, actors, actuators: counts.actuators, channels })
+    let actors = read_all(
+        bytes,
+        counts.actors_at(),
+        usize::from(counts.actors),
+        counts,
+        NO_ACTOR,
+    )?;
+    let channels = read_all(
+        bytes,
+        counts.channels_at(),
+        usize::from(counts.channels),
+        counts,
+        NO_CHANNEL,
+    )?;
+    Ok(Draft {
+        sensors,
+        actors,
+        actuators: counts.actuators,
+        channels,
+    })
 }
 
 // Reads an image, or gives the first refusal: by head, counts, length and fields, each at its lowest place.

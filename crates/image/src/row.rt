@@ -51,7 +51,13 @@ pub(crate) fn write_all<R: Row>(bytes: &mut [u8], at: usize, rows: &[R])
 }
 
 // Reads `many` records from `at` on, or gives the place of the lowest field out of range.
-pub(crate) fn read_all<R: Row, const N: usize>(bytes: &[u8], at: usize, many: usize, counts: Counts, filler: R) -> Result<Bounded<R, N>, usize>
+pub(crate) fn read_all<R: Row, const N: usize>(
+    bytes: &[u8],
+    at: usize,
+    many: usize,
+    counts: Counts,
+    filler: R,
+) -> Result<Bounded<R, N>, usize>
     requires few { ⌜ many ≤ N ⌝ }
     requires room { ⌜ at + wide * many ≤ length (now bytes) ⌝ }
     requires counted { ⌜ counts ≡ counts-at (now bytes) ⌝ }

@@ -11,16 +11,80 @@ mod tests {
 
     // Two sensors, three actors, one actuator and five channels.
     const SAMPLE: [u8; 74] = [
-        0x4C, 0x49, 0x4E, 1, 0, 2, 3, 1, 5, // head
-        60, 0, 0, 0, 0, 0, 0, 0, // sensors at 9
-        1, 0, 0, 0, 0, 0, 0, 0, 0, // actors at 17
-        0, 0, 0, 0, 0, 0xF4, 1, 0, 0, //
-        0, 0, 0, 0, 0, 0, 0, 0, 0, //
-        0, 0, 0, 0, 0, 0, // channels at 44
-        0, 1, 0, 0, 0, 1, //
-        1, 0, 0, 0, 1, 0, //
-        1, 1, 0, 0, 2, 0, //
-        1, 2, 0, 1, 0, 0, //
+        0x4C,
+        0x49,
+        0x4E,
+        1,
+        0,
+        2,
+        3,
+        1,
+        5, // head
+        60,
+        0,
+        0,
+        0,
+        0,
+        0,
+        0,
+        0, // sensors at 9
+        1,
+        0,
+        0,
+        0,
+        0,
+        0,
+        0,
+        0,
+        0, // actors at 17
+        0,
+        0,
+        0,
+        0,
+        0,
+        0xF4,
+        1,
+        0,
+        0, //
+        0,
+        0,
+        0,
+        0,
+        0,
+        0,
+        0,
+        0,
+        0, //
+        0,
+        0,
+        0,
+        0,
+        0,
+        0, // channels at 44
+        0,
+        1,
+        0,
+        0,
+        0,
+        1, //
+        1,
+        0,
+        0,
+        0,
+        1,
+        0, //
+        1,
+        1,
+        0,
+        0,
+        2,
+        0, //
+        1,
+        2,
+        0,
+        1,
+        0,
+        0, //
     ];
 
     // One byte of the sample, what it is changed to, and the number and place of the refusal.
@@ -94,10 +158,34 @@ mod tests {
     #[test]
     fn an_unknown_kind_is_refused() -> Result<(), Fail> {
         let image = [
-            0x4C, 0x49, 0x4E, 1, 0, 1, 1, 1, 1, //
-            0, 0, 0, 0, //
-            7, 0, 0, 0, 0, 0, 0, 0, 0, //
-            0, 0, 0, 0, 0, 0, //
+            0x4C,
+            0x49,
+            0x4E,
+            1,
+            0,
+            1,
+            1,
+            1,
+            1, //
+            0,
+            0,
+            0,
+            0, //
+            7,
+            0,
+            0,
+            0,
+            0,
+            0,
+            0,
+            0,
+            0, //
+            0,
+            0,
+            0,
+            0,
+            0,
+            0, //
         ];
         check_eq(refusal(&image), Some((4, 13)))
     }
@@ -126,7 +214,10 @@ mod tests {
         check(buffer[0..74] == SAMPLE[0..74])?;
         check(buffer[74..80] == [0xAA; 6][0..6])?;
         let mut short = [0xAA; 73];
-        check_eq(emit(&draft, &mut short), Err(Fault::Run(RunCause::Full, 74)))?;
+        check_eq(
+            emit(&draft, &mut short),
+            Err(Fault::Run(RunCause::Full, 74)),
+        )?;
         check(short[0..73] == [0xAA; 73][0..73])
     }
 }

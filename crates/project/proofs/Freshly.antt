@@ -21,23 +21,31 @@ use Rattle.project.specs.Fresh.{fresh-plan}
 
 pub fresh-sized : Sized fresh-plan
 fresh-sized = record {
-  some-sensor = lit≤ tt; few-sensors = lit≤ tt; some-actor = lit≤ tt; few-actors = lit≤ tt;
-  some-actuator = lit≤ tt; few-actuators = lit≤ tt; some-channel = lit≤ tt; few-channels = lit≤ tt;
+  some-sensor = lit≤ tt;
+  few-sensors = lit≤ tt;
+  some-actor = lit≤ tt;
+  few-actors = lit≤ tt;
+  some-actuator = lit≤ tt;
+  few-actuators = lit≤ tt;
+  some-channel = lit≤ tt;
+  few-channels = lit≤ tt;
 }
 
 pub fresh-ranged : Ranged fresh-plan
 fresh-ranged = record { latenesses = late; actors = able; channels = fits }
- where
-  late : (s : ℕ) → s < 1 → lateness fresh-plan s ≤ longest
-  late zero h = lit≤ tt
-  late (suc s) h = absurd (omega arith)
-  able : (a : ℕ) → a < 1 → Possible (actor-of fresh-plan a)
-  able zero h = record { number = (leZ-yes tt, leZ-yes tt); parameter = λ _. refl; delay = lit≤ tt }
-  able (suc a) h = absurd (omega arith)
-  fits : (c : Channel) → In c (fresh-plan .channels) → Proper fresh-plan c
-  fits c (inl e) = subst (Proper fresh-plan) (sym e) (record { source = lit< tt; sink = (lit< tt, lit< tt); no-bypass = λ x. x })
-  fits c (inr (inl e)) = subst (Proper fresh-plan) (sym e) (record { source = (lit< tt, lit< tt); sink = lit< tt; no-bypass = λ x. x })
-  fits c (inr (inr m)) = absurd m
+  where
+    late : (s : ℕ) → s < 1 → lateness fresh-plan s ≤ longest
+    late zero h = lit≤ tt
+    late (suc s) h = absurd (omega arith)
+
+    able : (a : ℕ) → a < 1 → Possible (actor-of fresh-plan a)
+    able zero h = record { number = (leZ-yes tt, leZ-yes tt); parameter = λ _. refl; delay = lit≤ tt }
+    able (suc a) h = absurd (omega arith)
+
+    fits : (c : Channel) → In c (fresh-plan .channels) → Proper fresh-plan c
+    fits c (inl e) = subst (Proper fresh-plan) (sym e) (record { source = lit< tt; sink = (lit< tt, lit< tt); no-bypass = λ x. x })
+    fits c (inr (inl e)) = subst (Proper fresh-plan) (sym e) (record { source = (lit< tt, lit< tt); sink = lit< tt; no-bypass = λ x. x })
+    fits c (inr (inr m)) = absurd m
 
 -- no channel of the fresh plan leads from an actor to an actor
 no-hop : (b o c i : ℕ) → Leads fresh-plan (Outlet b o) (Inlet c i) → ⊥
@@ -81,6 +89,12 @@ no-path b a n (via {c = c} o i m q) = no-hop b o c i m
 
 pub fresh-lawful : Lawful fresh-plan
 fresh-lawful = record {
-  sized = fresh-sized; ranged = fresh-ranged;
-  rising = rises; single = apart; feeding = feeds; fed = is-fed; live = lives; moving = λ a w. no-path a a 0 (w .1);
+  sized = fresh-sized;
+  ranged = fresh-ranged;
+  rising = rises;
+  single = apart;
+  feeding = feeds;
+  fed = is-fed;
+  live = lives;
+  moving = λ a w. no-path a a 0 (w .1);
 }

@@ -15,9 +15,9 @@ use Rattle.fault.specs.declared.Fault
 use Rattle.line.specs.Plan.{Plan}
 use Rattle.line.specs.Rules.{Sized, Ranged, Lawful, Misplaced, Doubled, Severed, Instant}
 use Rattle.image.specs.Encoding.{image}
-use Rattle.image.specs.Refusals.{Faulty, First, Spells}
+use Rattle.image.specs.Refusals.{Faulty, First, Spells, Loose, Flaw}
 use Rattle.image.proofs.Faithful.{sound-image, one-plan}
-use Rattle.project.specs.Flawed.{Loose, Flaw, FirstFlaw}
+use Rattle.project.specs.Flawed.{FirstFlaw}
 
 -- a lawful plan has no flaw
 pub no-flaw : (p : Plan) → Lawful p → (f : Fault) → Flaw p f → ⊥

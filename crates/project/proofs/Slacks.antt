@@ -36,7 +36,7 @@ to-pos : (m d : ℕ) → m < 2 ^ 32 → d < 2 ^ 63 → toZ w64 m -ℤ toZ w64 d 
 to-pos m d hm hd = omega (arith, ints)
 
 pub slack-on : (p : Plan) (f : List Span) (a s b i d m : ℕ) (x : Source) (y : Sink) → x ≡ Sensor s → y ≡ Inlet b i → m ≡ lateness p s → m < 2 ^ 32 → d < 2 ^ 63
-  → (b ≡ a → ⊥) → Some d ≡ length-at places f b a → Some (toZ w64 (ofZ w64 (toZ w64 m -ℤ toZ w64 d))) ≡ slack-of p f a x y
+    → (b ≡ a → ⊥) → Some d ≡ length-at places f b a → Some (toZ w64 (ofZ w64 (toZ w64 m -ℤ toZ w64 d))) ≡ slack-of p f a x y
 slack-on p f a s b i d m x y ex ey em hm hd ne e =
     let far : eqb a b ≡ false = ne-eqb a b (λ q. ne (sym q)) in
     let g = λ (k : ℕ). pos (lateness p s) -ℤ pos k in
@@ -48,22 +48,23 @@ slack-on p f a s b i d m x y ex ey em hm hd ne e =
 
 -- the greatest, with one number more
 greatest-later : (P Q : ℤ → Type 0) (v w : Option ℤ) → Greatest P v → ((z : ℤ) → P z → Q z) → ((z : ℤ) → w ≡ Some z → Q z)
-  → ((z : ℤ) → Q z → P z ⊎ (w ≡ Some z)) → Greatest Q (later v w)
+    → ((z : ℤ) → Q z → P z ⊎ (w ≡ Some z)) → Greatest Q (later v w)
 greatest-later P Q None None g up new old = λ z q. ⊎-elim (λ h. g z h) (λ e. none≢some e) (old z q)
 greatest-later P Q None (Some x) g up new old = (new x refl, λ z q. ⊎-elim (λ h. absurd (g z h)) (λ e. let s : x ≡ z = cc in subst (λ k. z ≤ℤ k) (sym s) (≤ℤ-refl z)) (old z q))
 greatest-later P Q (Some y) None g up new old = (up y (g .0), λ z q. ⊎-elim (λ h. g .1 z h) (λ e. absurd (none≢some e)) (old z q))
-greatest-later P Q (Some y) (Some x) g up new old =
-    ( ⊎-elim (λ l. subst Q (sym l) (up y (g .0))) (λ l. subst Q (sym l) (new x refl)) (one-max y x)
-    , λ z q. ⊎-elim
-        (λ h. let b : z ≤ℤ y = g .1 z h in omega (arith, ints, clamps))
-        (λ e. let s : x ≡ z = cc in omega (arith, ints, clamps))
-        (old z q) )
- where
-  one-max : (y x : ℤ) → (maxZ y x ≡ y) ⊎ (maxZ y x ≡ x)
-  one-max y x = cases-cond (ltZ x y) y x (maxZ y x) refl
+greatest-later P Q (Some y) (Some x) g up new old = (
+  ⊎-elim (λ l. subst Q (sym l) (up y (g .0))) (λ l. subst Q (sym l) (new x refl)) (one-max y x),
+  λ z q. ⊎-elim
+      (λ h. let b : z ≤ℤ y = g .1 z h in omega (arith, ints, clamps))
+      (λ e. let s : x ≡ z = cc in omega (arith, ints, clamps))
+      (old z q),
+)
+  where
+    one-max : (y x : ℤ) → (maxZ y x ≡ y) ⊎ (maxZ y x ≡ x)
+    one-max y x = cases-cond (ltZ x y) y x (maxZ y x) refl
 
 pub asks-more : (p : Plan) (f : List Span) (a : ℕ) (xs : List Channel) (c : Channel) (v w : Option ℤ) → Greatest (Asks p f a xs) v → w ≡ slack-of p f a (c .source) (c .sink)
-  → Greatest (Asks p f a (xs ++ c ∷ [])) (later v w)
+    → Greatest (Asks p f a (xs ++ c ∷ [])) (later v w)
 asks-more p f a xs c v w g e =
     greatest-later (Asks p f a xs) (Asks p f a (xs ++ c ∷ [])) v w g
     (λ z h. (h .0, in-front (h .0) xs (c ∷ []) (h .1), h .2))

@@ -27,7 +27,7 @@ deadline-is p l b h None e = absurd (l .live b (h, inr e))
 deadline-is p l b h (Some r) e = e
 
 pub sound : (d : Draft) (f : List Span) (w : List ℤ) → Lawful (plan-of d) → Far (plan-of d) f
-  → ((a : ℕ) → a < 32 → Awaits (plan-of d) f a (getD w a (pos 0))) → Sound (line-of d f w)
+    → ((a : ℕ) → a < 32 → Awaits (plan-of d) f a (getD w a (pos 0))) → Sound (line-of d f w)
 sound d f w l F A =
     let p = plan-of d in
     let few = l .sized .few-actors in
@@ -36,6 +36,6 @@ sound d f w l F A =
       distances = λ b a hb ha. F .distances b a (omega arith) (omega arith);
       deadlines = λ b hb. deadline-is p l b hb (length-at places f b exit) (F .exits b (omega arith));
       waits = λ a ha.
-        let x = A a (omega arith) in
-        subst (Wait p a) (sym (x .2)) (wait-is p few (l .ranged) f F (l .rising) a ha (l .live a) (x .0) (x .1));
+          let x = A a (omega arith) in
+          subst (Wait p a) (sym (x .2)) (wait-is p few (l .ranged) f F (l .rising) a ha (l .live a) (x .0) (x .1));
     }

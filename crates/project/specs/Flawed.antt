@@ -1,31 +1,11 @@
--- What can be wrong between the records of a plan, and which refusal says so.
+-- The first flaw of a plan, and what one check of it answers.
 use mathlib.Core.Path.{_≡_}
-use mathlib.Core.Logic.{_⊎_}
-use Prim.Native.Nat.{ℕ, _+_, _<_}
+use Prim.Native.Nat.{ℕ, _<_}
 use Rattle.std.specs.Results.{Cases}
 use Rattle.std.specs.declared.result.Result.{Result}
-use Rattle.fault.specs.declared.RecordsCause.the-variants.{Field, Order, Sink}
-use Rattle.fault.specs.declared.GraphCause.the-variants.{Unwired, CutOff, ZeroLoop}
 use Rattle.fault.specs.declared.Fault.{Fault}
-use Rattle.fault.specs.declared.Fault
 use Rattle.line.specs.Plan.{Plan}
-use Rattle.line.specs.Rules.{Misplaced, Doubled, Idle, Unfed, Severed, Instant}
-use Rattle.image.specs.Refusals.{Earlier}
-
--- a sensor feeds nothing, at its number, or an actuator is not fed, at 16 and its number
-abbrev pub Loose : Plan → ℕ → Type 0
-Loose p k = Idle p k ⊎ ((q : ℕ) × (k ≡ 16 + q) × Unfed p q)
-
--- what each refusal says of a plan whose fields are in range
-abbrev pub Flaw : Plan → Fault → Type 0
-Flaw p (Fault.Bytes cause k) = ⊥
-Flaw p (Fault.Records Field k) = ⊥
-Flaw p (Fault.Records Order k) = Misplaced p k
-Flaw p (Fault.Records Sink k) = Doubled p k
-Flaw p (Fault.Graph Unwired k) = Loose p k
-Flaw p (Fault.Graph CutOff k) = Severed p k
-Flaw p (Fault.Graph ZeroLoop k) = Instant p k
-Flaw p (Fault.Run cause k) = ⊥
+use Rattle.image.specs.Refusals.{Earlier, Flaw}
 
 -- f is the first flaw of the plan
 pub record FirstFlaw (p : Plan) (f : Fault) : Type 0 where

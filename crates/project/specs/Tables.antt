@@ -33,7 +33,7 @@ abbrev pub place-of : Sink → ℕ
 place-of (Inlet a i) = a
 place-of (Actuator q) = exit
 
--- the length of an edge after one of n more microseconds has been laid beside it
+-- the length of an edge after one of n microseconds has been laid beside it
 abbrev pub nearer : Option ℕ → ℕ → Option ℕ
 nearer None n = Some n
 nearer (Some m) n = Some (min m n)

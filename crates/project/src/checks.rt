@@ -7,20 +7,21 @@ ghost use Rattle.line.specs.Rules.{Misplaced, Doubled, Severed, Instant, Sized,
 ghost use Rattle.fault.specs.declared.RecordsCause.the-variants.{Order as Unordered, Sink as Shared};
 ghost use Rattle.fault.specs.declared.GraphCause.the-variants.{Unwired as Unwired, CutOff as CutOff, ZeroLoop as ZeroLoop};
 ghost use Rattle.fault.specs.declared.Fault.the-variants.{Records as OfRecords, Graph as OfGraph};
-ghost use Rattle.project.specs.Flawed.{Loose, Cleared, FirstFlaw};
+ghost use Rattle.image.specs.Refusals.{Loose};
+ghost use Rattle.project.specs.Flawed.{Cleared, FirstFlaw};
 ghost use Rattle.project.specs.Tables.{Far};
-use super::flaws::Double;
-use super::flaws::DoubleCondition;
-use super::flaws::Hunger;
-use super::flaws::HungerCondition;
-use super::flaws::Idleness;
-use super::flaws::IdlenessCondition;
-use super::flaws::Instantness;
-use super::flaws::InstantnessCondition;
-use super::flaws::Isolation;
-use super::flaws::IsolationCondition;
-use super::flaws::Order;
-use super::flaws::OrderCondition;
+use super::flaws::CutOffActor;
+use super::flaws::CutOffActorCondition;
+use super::flaws::IdleSensor;
+use super::flaws::IdleSensorCondition;
+use super::flaws::MisplacedChannel;
+use super::flaws::MisplacedChannelCondition;
+use super::flaws::SharedSink;
+use super::flaws::SharedSinkCondition;
+use super::flaws::UnfedActuator;
+use super::flaws::UnfedActuatorCondition;
+use super::flaws::ZeroLoopActor;
+use super::flaws::ZeroLoopActorCondition;
 use super::search::lowest;
 use super::tables::far;
 use super::tables::reach;
@@ -33,7 +34,7 @@ use paths::Span;
 fn check_order(draft: &Draft) -> Result<(), Fault>
     ensures { λ r. ⌜ Cleared (Misplaced (plan-of (now (draft .entry)))) (OfRecords Unordered) r ⌝ }
 {
-    match lowest(&Order(draft), draft.channels.len()) {
+    match lowest(&MisplacedChannel(draft), draft.channels.len()) {
         Some(k) => Err(Fault::Records(RecordsCause::Order, k as u64)),
         None => Ok(()),
     }
@@ -42,7 +43,7 @@ fn check_order(draft: &Draft) -> Result<(), Fault>
 fn check_sinks(draft: &Draft) -> Result<(), Fault>
     ensures { λ r. ⌜ Cleared (Doubled (plan-of (now (draft .entry)))) (OfRecords Shared) r ⌝ }
 {
-    match lowest(&Double(draft), draft.channels.len()) {
+    match lowest(&SharedSink(draft), draft.channels.len()) {
         Some(k) => Err(Fault::Records(RecordsCause::Sink, k as u64)),
         None => Ok(()),
     }
@@ -51,10 +52,10 @@ fn check_sinks(draft: &Draft) -> Result<(), Fault>
 fn check_wired(draft: &Draft) -> Result<(), Fault>
     ensures { λ r. ⌜ Cleared (Loose (plan-of (now (draft .entry)))) (OfGraph Unwired) r ⌝ }
 {
-    if let Some(s) = lowest(&Idleness(draft), draft.sensors.len()) {
+    if let Some(s) = lowest(&IdleSensor(draft), draft.sensors.len()) {
         return Err(Fault::Graph(GraphCause::Unwired, s as u64));
     }
-    match lowest(&Hunger(draft), draft.actuators as usize) {
+    match lowest(&UnfedActuator(draft), draft.actuators as usize) {
         Some(q) => Err(Fault::Graph(GraphCause::Unwired, 16 + q as u64)),
         None => Ok(()),
     }
@@ -66,7 +67,13 @@ fn check_reach(draft: &Draft) -> Result<(), Fault>
     ensures { λ r. ⌜ Cleared (Severed (plan-of (now (draft .entry)))) (OfGraph CutOff) r ⌝ }
 {
     let reach = reach(draft);
-    match lowest(&Isolation { draft, reach: &reach }, draft.actors.len()) {
+    match lowest(
+        &CutOffActor {
+            draft,
+            reach: &reach,
+        },
+        draft.actors.len(),
+    ) {
         Some(a) => Err(Fault::Graph(GraphCause::CutOff, a as u64)),
         None => Ok(()),
     }
@@ -78,7 +85,7 @@ fn check_loops<'a>(draft: &'a Draft, far: &'a [Span; 1089]) -> Result<(), Fault>
     requires far { ⌜ Far (plan-of (now draft)) (now far) ⌝ }
     ensures { λ r. ⌜ Cleared (Instant (plan-of (now (draft .entry)))) (OfGraph ZeroLoop) r ⌝ }
 {
-    match lowest(&Instantness { draft, far }, draft.actors.len()) {
+    match lowest(&ZeroLoopActor { draft, far }, draft.actors.len()) {
         Some(a) => Err(Fault::Graph(GraphCause::ZeroLoop, a as u64)),
         None => Ok(()),
     }

@@ -9,6 +9,7 @@ ghost use lib.ListN.{length};
 ghost use Rattle.project.specs.Tables.{Serves, SeveredBy, InstantBy};
 use super::search::Condition;
 use super::search::lowest;
+use super::tables::EXIT;
 use super::tables::leads;
 use super::tables::span_between;
 use super::wiring::end_of;
@@ -24,17 +25,38 @@ fn precedes(a: Source, b: Source) -> bool
 {
     match (a, b) {
         (Source::Sensor(m), Source::Sensor(n)) => m < n,
-        (Source::Sensor(_), Source::Outlet { actor: _, outlet: _ }) => true,
-        (Source::Outlet { actor: _, outlet: _ }, Source::Sensor(_)) => false,
-        (Source::Outlet { actor: m, outlet: o }, Source::Outlet { actor: n, outlet: p }) => m < n || (m == n && o < p),
+        (
+            Source::Sensor(_),
+            Source::Outlet {
+                actor: _,
+                outlet: _,
+            },
+        ) => true,
+        (
+            Source::Outlet {
+                actor: _,
+                outlet: _,
+            },
+            Source::Sensor(_),
+        ) => false,
+        (
+            Source::Outlet {
+                actor: m,
+                outlet: o,
+            },
+            Source::Outlet {
+                actor: n,
+                outlet: p,
+            },
+        ) => m < n || (m == n && o < p),
     }
 }
 
 // A channel that does not stand above the one before it.
 #[derive(Drop)]
-pub struct Order<'a>(pub &'a Draft);
+pub struct MisplacedChannel<'a>(pub &'a Draft);
 
-pub impl Condition for Order<'_> as OrderCondition {
+pub impl Condition for MisplacedChannel<'_> as MisplacedChannelCondition {
     ghost met = { λ s k. Misplaced (plan-of (s .0 .now)) k };
 
     fn is_met(&self, k: usize) -> bool {
@@ -48,9 +70,9 @@ pub impl Condition for Order<'_> as OrderCondition {
 
 // A channel that ends where an earlier one ends.
 #[derive(Drop)]
-pub struct Double<'a>(pub &'a Draft);
+pub struct SharedSink<'a>(pub &'a Draft);
 
-pub impl Condition for Double<'_> as DoubleCondition {
+pub impl Condition for SharedSink<'_> as SharedSinkCondition {
     ghost met = { λ s k. Doubled (plan-of (s .0 .now)) k };
 
     fn is_met(&self, k: usize) -> bool {
@@ -64,9 +86,9 @@ pub impl Condition for Double<'_> as DoubleCondition {
 
 // A sensor that feeds nothing.
 #[derive(Drop)]
-pub struct Idleness<'a>(pub &'a Draft);
+pub struct IdleSensor<'a>(pub &'a Draft);
 
-pub impl Condition for Idleness<'_> as IdlenessCondition {
+pub impl Condition for IdleSensor<'_> as IdleSensorCondition {
     ghost met = { λ s k. Idle (plan-of (s .0 .now)) k };
 
     fn is_met(&self, k: usize) -> bool {
@@ -79,9 +101,9 @@ pub impl Condition for Idleness<'_> as IdlenessCondition {
 
 // An actuator that nothing feeds.
 #[derive(Drop)]
-pub struct Hunger<'a>(pub &'a Draft);
+pub struct UnfedActuator<'a>(pub &'a Draft);
 
-pub impl Condition for Hunger<'_> as HungerCondition {
+pub impl Condition for UnfedActuator<'_> as UnfedActuatorCondition {
     ghost met = { λ s k. Unfed (plan-of (s .0 .now)) k };
 
     fn is_met(&self, k: usize) -> bool {
@@ -97,20 +119,21 @@ fn serves(reach: &[bool; 1089], actor: u8, x: Source, y: Sink) -> bool
     ensures { λ r. ⌜ Decides r (Serves (now (reach .entry)) actor x y) ⌝ }
 {
     match (x, y) {
-        (Source::Sensor(_), Sink::Inlet { actor: b, inlet: _ }) => b == actor || leads(reach, b, actor),
+        (Source::Sensor(_), Sink::Inlet { actor: b, inlet: _ }) => b == actor
+            || leads(reach, b, actor),
         _ => false,
     }
 }
 
 // A channel that serves an actor.
 #[derive(Drop)]
-struct Service<'a> {
+struct ServingChannel<'a> {
     draft: &'a Draft,
     reach: &'a [bool; 1089],
     actor: u8,
 }
 
-impl Condition for Service<'_> as ServiceCondition {
+impl Condition for ServingChannel<'_> as ServingChannelCondition {
     ghost met = { λ s k. (k < length (plan-of (s .draft .now) .channels)) × Serves (s .reach .now) (s .actor) (channel-of (plan-of (s .draft .now)) k .source) (channel-of (plan-of (s .draft .now)) k .sink) };
 
     fn is_met(&self, k: usize) -> bool {
@@ -123,12 +146,12 @@ impl Condition for Service<'_> as ServiceCondition {
 
 // An actor that no sensor comes to, or that comes to no actuator.
 #[derive(Drop)]
-pub struct Isolation<'a> {
+pub struct CutOffActor<'a> {
     pub draft: &'a Draft,
     pub reach: &'a [bool; 1089],
 }
 
-pub impl Condition for Isolation<'_> as IsolationCondition {
+pub impl Condition for CutOffActor<'_> as CutOffActorCondition {
     ghost met = { λ s k. SeveredBy (plan-of (s .draft .now)) (s .reach .now) k };
 
     fn is_met(&self, k: usize) -> bool {
@@ -136,19 +159,23 @@ pub impl Condition for Isolation<'_> as IsolationCondition {
             return false;
         }
         let actor = k as u8;
-        let service = Service { draft: self.draft, reach: self.reach, actor };
-        !leads(self.reach, actor, 32) || lowest(&service, self.draft.channels.len()).is_none()
+        let service = ServingChannel {
+            draft: self.draft,
+            reach: self.reach,
+            actor,
+        };
+        !leads(self.reach, actor, EXIT) || lowest(&service, self.draft.channels.len()).is_none()
     }
 }
 
 // An actor on a cycle without delay.
 #[derive(Drop)]
-pub struct Instantness<'a> {
+pub struct ZeroLoopActor<'a> {
     pub draft: &'a Draft,
     pub far: &'a [Span; 1089],
 }
 
-pub impl Condition for Instantness<'_> as InstantnessCondition {
+pub impl Condition for ZeroLoopActor<'_> as ZeroLoopActorCondition {
     ghost met = { λ s k. InstantBy (plan-of (s .draft .now)) (s .far .now) k };
 
     fn is_met(&self, k: usize) -> bool {

@@ -9,7 +9,7 @@ mod making;
 mod reading;
 mod writing;
 
-// A line that keeps every rule, with its distances and waits.
+// A line that keeps every rule, with its distances, deadlines and waits.
 #[derive(Copy)]
 pub struct Project {
     draft: Draft,

@@ -22,7 +22,9 @@ use paths::distances;
 use paths::reaches;
 
 pub const PLACES: usize = 33;
-pub const EXIT: usize = 32;
+
+pub const EXIT: u8 = 32;
+
 pub const CELLS: usize = 1089;
 
 fn place_of(sink: Sink) -> usize
@@ -30,7 +32,7 @@ fn place_of(sink: Sink) -> usize
 {
     match sink {
         Sink::Inlet { actor, inlet: _ } => actor as usize,
-        Sink::Actuator(_) => EXIT,
+        Sink::Actuator(_) => EXIT as usize,
     }
 }
 

@@ -33,7 +33,14 @@ fn slack(draft: &Draft, far: &[Span; 1089], actor: u8, channel: Channel) -> Opti
     requires far { ⌜ Far (plan-of (now draft)) (now far) ⌝ }
     ensures { λ r. ⌜ r ≡ slack-of (plan-of (now (draft .entry))) (now (far .entry)) actor (channel .source) (channel .sink) ⌝ }
 {
-    let (Source::Sensor(sensor), Sink::Inlet { actor: fed, inlet: _ }) = (channel.source, channel.sink) else {
+    let (
+        Source::Sensor(sensor),
+        Sink::Inlet {
+            actor: fed,
+            inlet: _,
+        },
+    ) = (channel.source, channel.sink)
+    else {
         return None;
     };
     let late = lateness_of(draft, sensor as usize) as i64;

@@ -10,7 +10,16 @@ fn is_source(a: Source, b: Source) -> bool
 {
     match (a, b) {
         (Source::Sensor(m), Source::Sensor(n)) => m == n,
-        (Source::Outlet { actor: m, outlet: o }, Source::Outlet { actor: n, outlet: p }) => m == n && o == p,
+        (
+            Source::Outlet {
+                actor: m,
+                outlet: o,
+            },
+            Source::Outlet {
+                actor: n,
+                outlet: p,
+            },
+        ) => m == n && o == p,
         _ => false,
     }
 }
@@ -19,7 +28,8 @@ fn is_sink(a: Sink, b: Sink) -> bool
     ensures { λ r. ⌜ r ≡ same-sink a b ⌝ }
 {
     match (a, b) {
-        (Sink::Inlet { actor: m, inlet: i }, Sink::Inlet { actor: n, inlet: j }) => m == n && i == j,
+        (Sink::Inlet { actor: m, inlet: i }, Sink::Inlet { actor: n, inlet: j }) => m == n
+            && i == j,
         (Sink::Actuator(m), Sink::Actuator(n)) => m == n,
         _ => false,
     }

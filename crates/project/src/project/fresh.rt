@@ -15,9 +15,22 @@ use line::parts::Source;
 fn fresh_draft() -> Draft
     ensures { λ r. ⌜ plan-of r ≡ fresh-plan ⌝ }
 {
-    let pass = Actor { kind: Kind::Pass, parameter: 0, delay: 1 };
-    let first = Channel { source: Source::Sensor(0), sink: Sink::Inlet { actor: 0, inlet: 0 } };
-    let last = Channel { source: Source::Outlet { actor: 0, outlet: 0 }, sink: Sink::Actuator(0) };
+    let pass = Actor {
+        kind: Kind::Pass,
+        parameter: 0,
+        delay: 1,
+    };
+    let first = Channel {
+        source: Source::Sensor(0),
+        sink: Sink::Inlet { actor: 0, inlet: 0 },
+    };
+    let last = Channel {
+        source: Source::Outlet {
+            actor: 0,
+            outlet: 0,
+        },
+        sink: Sink::Actuator(0),
+    };
     let mut sensors = Bounded::new(0);
     let _ = sensors.push(0);
     let mut actors = Bounded::new(pass);
@@ -25,7 +38,12 @@ fn fresh_draft() -> Draft
     let mut channels = Bounded::new(first);
     let _ = channels.push(first);
     let _ = channels.push(last);
-    Draft { sensors, actors, actuators: 1, channels }
+    Draft {
+        sensors,
+        actors,
+        actuators: 1,
+        channels,
+    }
 }
 
 impl Project {

@@ -1,6 +1,7 @@
 ghost use mathlib.Core.Path.{_≡_};
 ghost use Prim.Native.Nat.{_<_};
 ghost use lib.ListN.{length};
+ghost use Rattle.std.specs.Options.{Cases};
 ghost use Rattle.std.specs.shelf.Maps.{nth};
 ghost use Rattle.line.specs.Plan.{delay, wire, feed, start-of};
 ghost use Rattle.line.specs.Paths.{Distance, Deadline, Wait};
@@ -9,6 +10,7 @@ ghost use Rattle.line.specs.declared.parts.Sink.the-variants.{Actuator};
 ghost use Rattle.project.specs.Lookups.{distance-at, deadline-at, wait-at};
 ghost use Rattle.project.specs.Project.{plan, line};
 use super::Project;
+use crate::tables::EXIT;
 use crate::tables::delay_at;
 use crate::tables::span_between;
 use crate::wiring::end_of;
@@ -19,6 +21,11 @@ use line::parts::Sink;
 use line::parts::Source;
 
 impl Project {
+    // Every project keeps the rules, and its distances, deadlines and waits are those of its paths.
+    pub fn keeps_the_rules(&self)
+        ensures { λ _. ⌜ ∥ Sound (line (now (self .entry))) ∥₁ ⌝ }
+    {}
+
     // How many sensors there are.
     pub fn sensors(&self) -> u8
         ensures { λ r. ⌜ r ≡ length (plan (now (self .entry)) .sensors) ⌝ }
@@ -71,7 +78,10 @@ impl Project {
     pub fn wire(&self, actor: u8, outlet: u8) -> Option<Sink>
         ensures { λ r. ⌜ r ≡ wire (plan (now (self .entry))) actor outlet ⌝ }
     {
-        end_of(self.draft.channels.as_slice(), Source::Outlet { actor, outlet })
+        end_of(
+            self.draft.channels.as_slice(),
+            Source::Outlet { actor, outlet },
+        )
     }
 
     // Where a sensor leads.
@@ -103,18 +113,18 @@ impl Project {
     // The least sum of delays on a path from an actor to an actuator.
     pub fn deadline(&self, actor: usize) -> Option<u64>
         ensures value { λ r. ⌜ r ≡ deadline-at (line (now (self .entry))) actor ⌝ }
-        ensures least { λ r. ⌜ (actor < length (plan (now (self .entry)) .actors) → ∥ Deadline (plan (now (self .entry))) actor (line (now (self .entry)) .deadline actor) ∥₁) ⌝ }
+        ensures least { λ r. ⌜ (actor < length (plan (now (self .entry)) .actors) → Cases r ⊥ (λ d. ∥ Deadline (plan (now (self .entry))) actor d ∥₁)) ⌝ }
     {
         if actor >= self.draft.actors.len() {
             return None;
         }
-        Some(span_between(&self.far, actor as u8, 32).unwrap_or(0))
+        Some(span_between(&self.far, actor as u8, EXIT).unwrap_or(0))
     }
 
     // The greatest difference of a sensor's lateness and its distance to an actor.
     pub fn wait(&self, actor: usize) -> Option<i64>
         ensures value { λ r. ⌜ r ≡ wait-at (line (now (self .entry))) actor ⌝ }
-        ensures greatest { λ r. ⌜ (actor < length (plan (now (self .entry)) .actors) → ∥ Wait (plan (now (self .entry))) actor (line (now (self .entry)) .wait actor) ∥₁) ⌝ }
+        ensures greatest { λ r. ⌜ (actor < length (plan (now (self .entry)) .actors) → Cases r ⊥ (λ w. ∥ Wait (plan (now (self .entry))) actor w ∥₁)) ⌝ }
     {
         if actor >= self.draft.actors.len() {
             return None;

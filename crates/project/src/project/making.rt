@@ -18,6 +18,10 @@ impl Project {
     {
         let far = check(draft)?;
         let waits = waits(draft, &far);
-        Ok(Project { draft: *draft, far, waits })
+        Ok(Project {
+            draft: *draft,
+            far,
+            waits,
+        })
     }
 }

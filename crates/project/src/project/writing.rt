@@ -4,7 +4,7 @@ ghost use Rattle.image.specs.Bytes.{put};
 ghost use Rattle.image.specs.Encoding.{image};
 ghost use lib.ListN.{length, replicate};
 ghost use Rattle.std.specs.Orderings.{Decides};
-ghost use Rattle.project.specs.Project.{plan};
+ghost use Rattle.project.specs.Project.{Round-trips, plan};
 use super::Project;
 use fault::Fault;
 use image::emit;
@@ -20,6 +20,11 @@ impl Project {
     {
         emit(&self.draft, buffer)
     }
+
+    // Images and projects come back from each other.
+    pub fn images_come_back()
+        ensures { λ _. ⌜ Round-trips ⌝ }
+    {}
 
     // The image in front of zeros, and its length.
     fn spelled(&self) -> ([u8; 937], usize)

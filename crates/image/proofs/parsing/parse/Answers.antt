@@ -16,15 +16,20 @@ returns-in-Break-check-length c =
     let r = c .from-residual-in-Break-check-length in
     let p = err-from-errBy (r .result) (r .ensures .1) in
     let low = c .in-Break-check-length .ensures tt in
-    rw (p .1, p .2, low .1) (first-length (c .args .bytes .now) (low .0) (c .in-Continue-check-head .ensures tt .checked)
-      (c .in-Continue-counts .ensures tt .checked) (low .2), omega arith)
+    rw (p .1, p .2, low .1) (
+      first-length (c .args .bytes .now) (low .0) (c .in-Continue-check-head .ensures tt .checked)
+          (c .in-Continue-counts .ensures tt .checked) (low .2),
+      omega arith,
+    )
 
 pub read-records-requires : need.read-records-requires
 read-records-requires c κs =
     fronted (c .args .bytes .now) (c .in-Continue-check-head .ensures tt .long) _ (c .in-Continue-counts .ensures tt .counts)
-      (c .in-Continue-check-head .ensures tt .checked) (c .in-Continue-counts .ensures tt .checked) (c .in-Continue-check-length .ensures tt)
+    (c .in-Continue-check-head .ensures tt .checked) (c .in-Continue-counts .ensures tt .checked) (c .in-Continue-check-length .ensures tt)
 
 pub returns-in-Err : need.returns-in-Err
-returns-in-Err c =
-    (first-field (c .args .bytes .now) (c .in-Err .place) (c .in-Continue-check-head .ensures tt .checked)
-      (c .in-Continue-counts .ensures tt .checked) (c .in-Continue-check-length .ensures tt) (c .in-Err .ensures tt), omega arith)
+returns-in-Err c = (
+  first-field (c .args .bytes .now) (c .in-Err .place) (c .in-Continue-check-head .ensures tt .checked)
+      (c .in-Continue-counts .ensures tt .checked) (c .in-Continue-check-length .ensures tt) (c .in-Err .ensures tt),
+  omega arith,
+)

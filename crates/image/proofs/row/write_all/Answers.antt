@@ -22,7 +22,7 @@ pub add-to : need.add-to
 add-to g c =
     let room = before (g .R·Row .wide) (c .loop-i .i) (length (c .args .rows .now)) (c .loop-i-test .taken) in
     let h : c .loop-i .to + c .width-to .result ≤ length (c .args .bytes .now)
-          = omega (arith, c .loop-i .inv .0, c .width-to .ensures) in
+    = omega (arith, c .loop-i .inv .0, c .width-to .ensures) in
     search needs
 
 pub loop-i-again : need.loop-i-again
@@ -33,10 +33,11 @@ loop-i-again g c =
     let at = c .args .at in
     let was = c .loop-i .bytes in
     let wrote = c .write .ensures ∙ ap (λ m. put was m (r .spelt (x .result))) (c .loop-i .inv .0)
-          ∙ ap (λ y. put was (at + r .wide * i) (r .spelt y)) (x .is) in
-    (omega (arith, c .loop-i .inv .0, c .width-to .ensures, one-more (r .wide) i),
+    ∙ ap (λ y. put was (at + r .wide * i) (r .spelt y)) (x .is) in (
+      omega (arith, c .loop-i .inv .0, c .width-to .ensures, one-more (r .wide) i),
       write-more (r .spelt) (r .wide) (g .R·Row·met .even) (c .args .bytes .now) at i (c .args .rows .now) _ _ (x .result)
-        (c .loop-i-test .taken) (omega arith) (c .loop-i .inv .1) wrote)
+          (c .loop-i-test .taken) (omega arith) (c .loop-i .inv .1) wrote,
+    )
 
 pub returns : need.returns
 returns g c =

@@ -13,9 +13,13 @@ returns-in-Some c =
 pub returns-in-Some-lowest : need.returns-in-Some-lowest
 returns-in-Some-lowest c =
     let h = c .in-Some-lowest .ensures tt in
-    let q = c .in-Some-lowest .q in
-    (16 + q, refl, inr (q, refl, h .1), λ j lt.
-      ⊎-elim (λ i. c .in-rest .ensures tt j (omega (arith, i .0, c .len .ensures .count)) i) (λ w. h .2 (w .0) (omega (arith, w .1, lt)) (w .2)))
+    let q = c .in-Some-lowest .q in (
+      16 + q,
+      refl,
+      inr (q, refl, h .1),
+      λ j lt.
+          ⊎-elim (λ i. c .in-rest .ensures tt j (omega (arith, i .0, c .len .ensures .count)) i) (λ w. h .2 (w .0) (omega (arith, w .1, lt)) (w .2)),
+    )
 
 pub returns-in-None : need.returns-in-None
 returns-in-None c = λ k.

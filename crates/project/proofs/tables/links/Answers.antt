@@ -17,8 +17,10 @@ loop-k-again c =
     let es = c .args .edges .now in
     let within : c .loop-k .k < length (c .loop-k .table) = omega (arith, c .loop-k .inv .0) in
     let here : getD (set t k (c .is-some .result)) k false ≡ isSome (length-of (getD es k no-span)) =
-          getD-set-same t k (c .is-some .result) false within ∙ c .is-some .ensures ∙ ap isSome (c .length .ensures)
-          ∙ ap (λ s. isSome (length-of s)) (getD-default es k (c .index-edges-k .result) no-span (omega arith)) in
-    (length-set t k (c .is-some .result) ∙ c .loop-k .inv .0, below-more (λ j. getD (set t k (c .is-some .result)) j false ≡ isSome (length-of (getD es j no-span))) k
-    (λ j h. let ne : j ≢ k = omega arith in getD-set-other t k j (c .is-some .result) false ne ∙ c .loop-k .inv .1 j h)
-    here)
+    getD-set-same t k (c .is-some .result) false within ∙ c .is-some .ensures ∙ ap isSome (c .length .ensures)
+    ∙ ap (λ s. isSome (length-of s)) (getD-default es k (c .index-edges-k .result) no-span (omega arith)) in (
+      length-set t k (c .is-some .result) ∙ c .loop-k .inv .0,
+      below-more (λ j. getD (set t k (c .is-some .result)) j false ≡ isSome (length-of (getD es j no-span))) k
+          (λ j h. let ne : j ≢ k = omega arith in getD-set-other t k j (c .is-some .result) false ne ∙ c .loop-k .inv .1 j h)
+          here,
+    )

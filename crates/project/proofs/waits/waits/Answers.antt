@@ -22,11 +22,12 @@ loop-a-again c =
     let t = c .loop-a .table in
     let w = toZ w64 (ofZ w64 (c .unwrap-or .result)) in
     let fits : SFits w64 (c .unwrap-or .result) = record { sfits = c .unwrap-or .ok } in
-    let within : c .loop-a .a < length (c .loop-a .table) = omega (arith, c .loop-a .inv .0) in
-    ( length-set t a w ∙ c .loop-a .inv .0
-    , below-more (λ k. Awaits p f k (getD (set t a w) k (pos 0))) a
-      (λ k h.
-        let ne : k ≢ a = omega arith in
-        let old = c .loop-a .inv .1 k h in
-        (old .0, old .1, getD-set-other t a k w (pos 0) ne ∙ old .2))
-      (c .wait-of .result, c .wait-of .ensures, getD-set-same t a w (pos 0) within ∙ toZ-ofZ w64 _ fits ∙ c .unwrap-or .ensures) )
+    let within : c .loop-a .a < length (c .loop-a .table) = omega (arith, c .loop-a .inv .0) in (
+      length-set t a w ∙ c .loop-a .inv .0,
+      below-more (λ k. Awaits p f k (getD (set t a w) k (pos 0))) a
+          (λ k h.
+          let ne : k ≢ a = omega arith in
+          let old = c .loop-a .inv .1 k h in
+          (old .0, old .1, getD-set-other t a k w (pos 0) ne ∙ old .2))
+          (c .wait-of .result, c .wait-of .ensures, getD-set-same t a w (pos 0) within ∙ toZ-ofZ w64 _ fits ∙ c .unwrap-or .ensures),
+    )

@@ -22,7 +22,7 @@ returns c =
     let d = c .get-u32 .result in
     let fits : SFits w32 z = search needs in
     let judged = subst (λ (y : ℤ). Judged actor-bytes Possible (BadActorOf (byte bs b) y d) (fields-bytes (byte bs b) y d) 9 (c .actor-of .result))
-          (toZ-ofZ w32 z fits) (c .actor-of .ensures) in
+    (toZ-ofZ w32 z fits) (c .actor-of .ensures) in
     judged-same actor-bytes Possible _ _ _ _ 9 (c .actor-of .result)
-      (actor-fields bs b z d fits (c .get-i32 .ensures .value) (c .get-u32 .ensures .value))
-      (nine-at bs b _ _ (c .pre .room) (c .get-i32 .ensures .back) (c .get-u32 .ensures .back)) judged
+    (actor-fields bs b z d fits (c .get-i32 .ensures .value) (c .get-u32 .ensures .value))
+    (nine-at bs b _ _ (c .pre .room) (c .get-i32 .ensures .back) (c .get-u32 .ensures .back)) judged

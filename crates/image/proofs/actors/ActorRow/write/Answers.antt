@@ -23,4 +23,4 @@ returns c =
     let one = ap (set d at) (c .number-of .ensures) ∙ put-one d at k (omega arith) in
     let two = c .put-i32 .ensures ∙ ap (λ z. put (set d at (c .number-of .result)) (at + 1) (le 4 (ofZ w32 z))) (toZ-ofZ w32 (x .parameter) fits) in
     put-next d (k ∷ p) (le 4 (x .delay)) at (at + 5) (omega arith) refl
-      (put-next d (k ∷ []) p at (at + 1) (omega arith) refl one two) (c .put-u32 .ensures)
+    (put-next d (k ∷ []) p at (at + 1) (omega arith) refl one two) (c .put-u32 .ensures)

@@ -15,8 +15,11 @@ returns-in-Break-sink c =
     let p = err-from-errBy (c .from-residual-in-Break-sink .result) (c .from-residual-in-Break-sink .ensures .1) in
     let low = c .in-Break-sink .ensures tt in
     let source = c .in-Continue-source .ensures tt in
-    rw (p .1, p .2) (low .0, sink-low (c .args .bytes .now) (c .args .at) (c .args .counts) (c .pre .counted) _ _
-      (sort-of _ (source .spells)) (source .clean) (low .1))
+    rw (p .1, p .2) (
+      low .0,
+      sink-low (c .args .bytes .now) (c .args .at) (c .args .counts) (c .pre .counted) _ _
+          (sort-of _ (source .spells)) (source .clean) (low .1),
+    )
 
 pub returns : need.returns
 returns c =
@@ -26,5 +29,5 @@ returns c =
       spells = six-at (c .args .bytes .now) (c .args .at) _ _ (c .pre .room) (source .spells) (sink .spells);
       in-range = λ p h. record { source = source .in-range p h; sink = sink .in-range .0 p h; no-bypass = sink .in-range .1 };
       clean = channel-clean (c .args .bytes .now) (c .args .at) (c .args .counts) (c .pre .counted) _
-        (sort-of _ (source .spells)) (source .clean) (sink .clean);
+          (sort-of _ (source .spells)) (source .clean) (sink .clean);
     }

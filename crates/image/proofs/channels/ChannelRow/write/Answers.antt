@@ -17,6 +17,6 @@ returns c =
     let at = c .args .at in
     let x = c .args .self in
     put-next d (source-bytes (x .source)) (sink-bytes (x .sink)) at (at + 3) (omega arith)
-      (ap (λ n. at + n) (length-source (x .source)))
-      (c .put-bytes .ensures ∙ ap (put d at) (c .spell-source .ensures))
-      (c .put-bytes-2 .ensures ∙ ap (put (c .put-bytes .last .bytes) (at + 3)) (c .spell-sink .ensures))
+    (ap (λ n. at + n) (length-source (x .source)))
+    (c .put-bytes .ensures ∙ ap (put d at) (c .spell-source .ensures))
+    (c .put-bytes-2 .ensures ∙ ap (put (c .put-bytes .last .bytes) (at + 3)) (c .spell-sink .ensures))

@@ -1,4 +1,4 @@
-use mathlib.Core.Path.{_≡_, ap, sym, _∙_}
+use mathlib.Core.Path.{_≡_, ap, sym, subst, _∙_}
 use mathlib.Core.Bool.{true}
 use mathlib.Core.Logic.{∥∥₁-map}
 use native.Mathlib.Omega.{arith}
@@ -12,6 +12,7 @@ use Rattle.std.proofs.shelf.Signed.{toZ-ofZ}
 use Rattle.std.proofs.shelf.Tests.{lt-ltb}
 use Rattle.std.specs.Options.{whenTrue}
 use Rattle.std.specs.declared.option.Option.the-variants.{Some}
+use Rattle.line.specs.Paths.{Wait}
 use Rattle.project.specs.Project.{plan}
 use Rattle.project.proofs.project.Project.wait.Needs as need
 
@@ -23,5 +24,5 @@ returns c =
     let there : ltb (c .args .actor) (length (plan (c .args .self .now) .actors)) ≡ true = lt-ltb _ _ (omega arith) in
     record {
       value = ap Some (toZ-ofZ w64 w f) ∙ sym (ap (λ b. whenTrue b w) there);
-      greatest = λ h. ∥∥₁-map (c .args .self .now .sound) (λ s. s .waits a h);
+      greatest = λ h. ∥∥₁-map (c .args .self .now .sound) (λ s. subst (Wait (plan (c .args .self .now)) a) (sym (toZ-ofZ w64 w f)) (s .waits a h));
     }

@@ -3,7 +3,7 @@ use native.Mathlib.Omega.{arith}
 use borrow.Author.Needs.{needs}
 use Rattle.image.specs.Drafts.{plan-of}
 use Rattle.project.proofs.Found.{severed-by}
-use Rattle.project.proofs.flaws.IsolationCondition.is_met.Needs as need
+use Rattle.project.proofs.flaws.CutOffActorCondition.is_met.Needs as need
 
 pub returns-else-not-leads : need.returns-else-not-leads
 returns-else-not-leads c =

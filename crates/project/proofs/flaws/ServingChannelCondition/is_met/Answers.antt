@@ -5,7 +5,7 @@ use Rattle.line.specs.Rules.{no-channel}
 use Rattle.line.specs.declared.parts.Channel.{Channel}
 use Rattle.project.specs.Tables.{Serves}
 use Rattle.project.proofs.Nths.{nth-some, nth-none}
-use Rattle.project.proofs.flaws.ServiceCondition.is_met.Needs as need
+use Rattle.project.proofs.flaws.ServingChannelCondition.is_met.Needs as need
 
 pub returns-in-rest : need.returns-in-rest
 returns-in-rest c = (λ e. absurd (false≢true e), λ w. absurd (omega (arith, w .0, nth-none _ (c .args .k) no-channel (c .in-rest .ensures tt) .0)))

@@ -1,0 +1,8 @@
+pub mod Lists
+pub mod Meaning
+pub mod State
+pub mod Calls
+pub mod Runs
+pub mod Safe
+pub mod Laws
+pub mod Sample
