@@ -21,7 +21,7 @@ use Rattle.line.specs.Paths.{Path, hop}
 use Rattle.line.specs.Times.{Line, Sound}
 use Rattle.line.specs.declared.parts.Sink.the-variants.{Inlet}
 use Rattle.runs.specs.Lists.{Each, Pairs, keep}
-use Rattle.runs.specs.Meaning.{Meaning}
+use Rattle.banks.specs.Meaning.{Meaning}
 use Rattle.runs.specs.State.{port}
 use Rattle.runs.specs.Runs.{Arrival}
 use Rattle.runs.specs.declared.records.Event.{Event}

@@ -13,7 +13,7 @@ use Rattle.std.proofs.shelf.Tests.{not-from-false}
 use Rattle.line.specs.Lists.{In}
 use Rattle.line.specs.Times.{Line, Sound}
 use Rattle.runs.specs.Lists.{Each, Pairs, keep, Without, here, later}
-use Rattle.runs.specs.Meaning.{Meaning}
+use Rattle.banks.specs.Meaning.{Meaning}
 use Rattle.runs.specs.State.{State, delivered, closed, output-time, deadline-at}
 use Rattle.runs.specs.Calls.{Outcome, First, Pick-answers, Deliver-outcome, output-of, nothing, time-at, status}
 use Rattle.runs.specs.Calls.{arrive-answer, arrive-after, advance-answer, advance-after, start-answer, start-after}

@@ -18,7 +18,7 @@ use Rattle.line.specs.declared.parts.Source.the-variants.{Sensor, Outlet}
 use Rattle.line.specs.declared.parts.Sink.{Sink}
 use Rattle.line.specs.declared.parts.Sink.the-variants.{Inlet}
 use Rattle.runs.specs.Lists.{Each, keep, put-all}
-use Rattle.runs.specs.Meaning.{Meaning}
+use Rattle.banks.specs.Meaning.{Meaning}
 use Rattle.runs.specs.State.{State, running, firing, taken, value-for, four, port, event-at, events-sent, event-time}
 use Rattle.runs.specs.Runs.{Arrival}
 use Rattle.runs.specs.declared.records.Event.{Event}

@@ -10,7 +10,7 @@ use Rattle.std.proofs.shelf.Tests.{eqb-true}
 use Rattle.line.specs.Lists.{In}
 use Rattle.line.specs.Times.{Line, Sound}
 use Rattle.runs.specs.Lists.{Each, keep}
-use Rattle.runs.specs.Meaning.{Meaning}
+use Rattle.banks.specs.Meaning.{Meaning}
 use Rattle.runs.specs.State.{State, firing, outputs-sent, output-time}
 use Rattle.runs.specs.Calls.{output-of}
 use Rattle.runs.specs.Runs.{Timed, at-clock, all-at, for-actuator, when-due}

@@ -11,7 +11,7 @@ use Rattle.std.proofs.shelf.Tests.{eqb-true}
 use Rattle.line.specs.Lists.{In}
 use Rattle.line.specs.Times.{Line, Sound}
 use Rattle.runs.specs.Lists.{Each, Pairs, keep}
-use Rattle.runs.specs.Meaning.{Meaning}
+use Rattle.banks.specs.Meaning.{Meaning}
 use Rattle.runs.specs.State.{State, firing, finished}
 use Rattle.runs.specs.Calls.{Outcome, finish-answer, finish-after}
 use Rattle.runs.specs.Runs.{Journal, Arrival, Timed, arrivals, written, handed, for-actuator, when-due}

@@ -20,7 +20,7 @@ use Rattle.line.specs.Lists.{In}
 use Rattle.line.specs.Paths.{Path}
 use Rattle.line.specs.Times.{Line, Sound}
 use Rattle.runs.specs.Lists.{Each, keep, least}
-use Rattle.runs.specs.Meaning.{Meaning}
+use Rattle.banks.specs.Meaning.{Meaning}
 use Rattle.runs.specs.State.{State, started, at-actor, event-time, aside, to-inlet, to-actuator, deadline-at}
 use Rattle.runs.specs.State.{longest-delay}
 use Rattle.runs.specs.Calls.{when, first-met, horizon, event-room, output-room, first-at, time-at, ready-at, natural}

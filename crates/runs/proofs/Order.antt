@@ -11,7 +11,7 @@ use Rattle.std.proofs.shelf.Tests.{eq-eqb, ne-eqb, cases-eq}
 use Rattle.line.specs.Lists.{In}
 use Rattle.line.specs.Times.{Line, Sound}
 use Rattle.runs.specs.Lists.{Each, Pairs, changed}
-use Rattle.runs.specs.Meaning.{Meaning}
+use Rattle.banks.specs.Meaning.{Meaning}
 use Rattle.runs.specs.State.{State, running, firing}
 use Rattle.runs.specs.Runs.{Arrival}
 use Rattle.runs.specs.Safe.{Above, Causal}

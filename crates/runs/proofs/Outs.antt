@@ -15,7 +15,7 @@ use Rattle.line.specs.declared.parts.Source.the-variants.{Outlet}
 use Rattle.line.specs.declared.parts.Sink.{Sink}
 use Rattle.line.specs.declared.parts.Sink.the-variants.{Inlet, Actuator}
 use Rattle.runs.specs.Lists.{Each, Pairs}
-use Rattle.runs.specs.Meaning.{Meaning}
+use Rattle.banks.specs.Meaning.{Meaning}
 use Rattle.runs.specs.State.{State, firing, ports, port, output-at, output-from, outputs-sent, output-time}
 use Rattle.runs.specs.Calls.{output-of}
 use Rattle.runs.specs.declared.records.Running.{Running}

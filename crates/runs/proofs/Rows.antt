@@ -13,7 +13,7 @@ use Rattle.std.proofs.shelf.Tests.{eq-eqb, ne-eqb, cases-eq}
 use Rattle.line.specs.Plan.{Plan}
 use Rattle.line.specs.Times.{Line, Sound}
 use Rattle.runs.specs.Lists.{Each}
-use Rattle.runs.specs.Meaning.{Meaning, Reacted, Alike, Follows, at-open, after}
+use Rattle.banks.specs.Meaning.{Meaning, Reacted, Alike, Follows, at-open, after}
 use Rattle.runs.specs.State.{State, running, firing, port, shown}
 use Rattle.runs.specs.declared.records.Running.{Running}
 use Rattle.runs.specs.declared.records.Firing.{Firing}

@@ -8,7 +8,7 @@ use Rattle.std.specs.declared.option.Option.{Option}
 use Rattle.std.specs.declared.option.Option.the-variants.{Some, None}
 use Rattle.line.specs.Times.{Line, Sound}
 use Rattle.runs.specs.Lists.{changed}
-use Rattle.runs.specs.Meaning.{Meaning}
+use Rattle.banks.specs.Meaning.{Meaning}
 use Rattle.runs.specs.State.{State, fresh, arrived, advanced, started, finished, delivered, closed, running, firing}
 use Rattle.runs.specs.State.{reacted, outputs-sent}
 use Rattle.runs.specs.Calls.{Delivers, output-of}

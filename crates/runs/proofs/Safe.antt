@@ -19,7 +19,7 @@ use Rattle.line.specs.Times.{Line, Sound}
 use Rattle.line.specs.declared.parts.Sink.{Sink}
 use Rattle.line.specs.declared.parts.Sink.the-variants.{Inlet, Actuator}
 use Rattle.runs.specs.Lists.{Each, Pairs, keep, changed}
-use Rattle.runs.specs.Meaning.{Meaning, Reacted}
+use Rattle.banks.specs.Meaning.{Meaning, Reacted}
 use Rattle.runs.specs.State.{State, fresh, arrived, advanced, started, unstacked, delivered, closed, running}
 use Rattle.runs.specs.State.{firing-of, taken, event-at, events-sent, outputs-sent, event-time, output-time, aside}
 use Rattle.runs.specs.State.{to-inlet, to-actuator, leading, deadline-at, deadline-of}

@@ -16,7 +16,7 @@ use Rattle.line.specs.Lists.{In}
 use Rattle.line.specs.Plan.{Plan}
 use Rattle.line.specs.Times.{Line, Sound}
 use Rattle.runs.specs.Lists.{Each, Pairs, keep}
-use Rattle.runs.specs.Meaning.{Meaning}
+use Rattle.banks.specs.Meaning.{Meaning}
 use Rattle.runs.specs.State.{State, arrived, advanced, started, reacted, firing-of, events-sent, outputs-sent, aside}
 use Rattle.runs.specs.State.{to-inlet, to-actuator, leading}
 use Rattle.runs.specs.Calls.{Outcome, after, arrive-verdict, arrive-after, advance-verdict, advance-after}

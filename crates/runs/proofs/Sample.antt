@@ -10,7 +10,7 @@ use lib.ListN.{length}
 use Rattle.std.proofs.shelf.Tests.{ltb-true, not-false}
 use Rattle.line.specs.Times.{Line}
 use Rattle.runs.specs.Lists.{here}
-use Rattle.runs.specs.Meaning.{Meaning}
+use Rattle.banks.specs.Meaning.{Meaning}
 use Rattle.runs.specs.State.{State, fresh, arrived, advanced, started, finished, delivered, closed, running}
 use Rattle.runs.specs.Calls.{Outcome, Startable, start-checks, time-at, Picked, Delivers}
 use Rattle.runs.specs.Runs.{Journal, Runs, opened, next}

@@ -12,7 +12,7 @@ use Rattle.std.specs.declared.option.Option.{Option}
 use Rattle.std.specs.declared.option.Option.the-variants.{Some}
 use Rattle.line.specs.Lists.{In}
 use Rattle.line.specs.Times.{Line, Sound}
-use Rattle.runs.specs.Meaning.{Meaning, Reacted}
+use Rattle.banks.specs.Meaning.{Meaning, Reacted}
 use Rattle.runs.specs.State.{State, fresh, with-rows, unstacked, delivered, closed, firing-of, events-sent}
 use Rattle.runs.specs.State.{outputs-sent, longest-delay}
 use Rattle.runs.specs.Calls.{horizon, event-room, output-room, arrive-after, advance-after, start-after, Startable}

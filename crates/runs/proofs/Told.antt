@@ -11,7 +11,7 @@ use Rattle.std.proofs.shelf.Lists.{reverse-append, reverse-reverse, joined-more
 use Rattle.fault.specs.declared.Fault.{Fault}
 use Rattle.line.specs.Plan.{Plan}
 use Rattle.line.specs.Times.{Line, Sound}
-use Rattle.runs.specs.Meaning.{Meaning}
+use Rattle.banks.specs.Meaning.{Meaning}
 use Rattle.runs.specs.State.{State, arrived, advanced, started, delivered, closed, firing, outputs-sent, deadline-at}
 use Rattle.runs.specs.State.{deadline-of}
 use Rattle.runs.specs.Calls.{Outcome, answer, after, arrive-verdict, advance-verdict, start-verdict, time-at}

@@ -13,7 +13,7 @@ use Rattle.line.specs.declared.parts.Source.{Source}
 use Rattle.line.specs.declared.parts.Source.the-variants.{Sensor, Outlet}
 use Rattle.line.specs.declared.parts.Sink.the-variants.{Inlet}
 use Rattle.runs.specs.Lists.{Each}
-use Rattle.runs.specs.Meaning.{Meaning, Alike}
+use Rattle.banks.specs.Meaning.{Meaning, Alike}
 use Rattle.runs.specs.State.{State}
 use Rattle.runs.specs.Runs.{Arrival, Complete}
 use Rattle.runs.specs.Safe.{Reach}

@@ -19,7 +19,7 @@ use Rattle.fault.specs.declared.RunCause.the-variants.{Early, Behind, NotSooner
 use Rattle.line.specs.Plan.{Plan, lateness}
 use Rattle.line.specs.Times.{Line}
 use Rattle.runs.specs.Lists.{Each, keep, least, Without}
-use Rattle.runs.specs.Meaning.{Meaning}
+use Rattle.banks.specs.Meaning.{Meaning}
 use Rattle.runs.specs.State.{State, arrived, advanced, started, finished, delivered, closed, firing, at-actor}
 use Rattle.runs.specs.State.{event-time, output-time, aside, to-inlet, to-actuator, deadline-at, deadline-of}
 use Rattle.runs.specs.State.{longest-delay}

@@ -12,7 +12,7 @@ use Rattle.fault.specs.declared.RunCause.the-variants.{Full, Horizon}
 use Rattle.line.specs.Lists.{In}
 use Rattle.line.specs.Times.{Line, Sound}
 use Rattle.runs.specs.Lists.{Pairs}
-use Rattle.runs.specs.Meaning.{Meaning, Alike}
+use Rattle.banks.specs.Meaning.{Meaning, Alike}
 use Rattle.runs.specs.State.{State, deadline-of}
 use Rattle.runs.specs.Calls.{Outcome, start-verdict, event-room, output-room}
 use Rattle.runs.specs.Runs.{Journal, Runs, Complete, sensor-events, firings, actor-record, actuator-record, postings}

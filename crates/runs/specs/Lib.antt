@@ -1,5 +1,4 @@
 pub mod Lists
-pub mod Meaning
 pub mod State
 pub mod Calls
 pub mod Runs

@@ -9,7 +9,7 @@ use Rattle.std.specs.Joined.{joined}
 use Rattle.line.specs.Plan.{Plan}
 use Rattle.line.specs.Times.{Line}
 use Rattle.runs.specs.Lists.{keep}
-use Rattle.runs.specs.Meaning.{Meaning}
+use Rattle.banks.specs.Meaning.{Meaning}
 use Rattle.runs.specs.State.{State, fresh, outputs-sent}
 use Rattle.runs.specs.Calls.{Outcome, output-of}
 use Rattle.runs.specs.declared.records.Firing.{Firing}

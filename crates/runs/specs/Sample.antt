@@ -17,7 +17,7 @@ use Rattle.line.specs.Times.{Line, Sound}
 use Rattle.line.specs.declared.parts.Kind.the-variants.{Pass, Count}
 use Rattle.line.specs.declared.parts.Source.the-variants.{Sensor, Outlet}
 use Rattle.line.specs.declared.parts.Sink.the-variants.{Inlet, Actuator}
-use Rattle.runs.specs.Meaning.{Meaning, Reacted, Reaction}
+use Rattle.banks.specs.Meaning.{Meaning, Reacted, Reaction}
 use Rattle.runs.specs.State.{State, four, port}
 use Rattle.runs.specs.Runs.{Journal, Runs}
 use Rattle.runs.specs.declared.records.Call.{Call}

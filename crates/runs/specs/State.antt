@@ -13,7 +13,7 @@ use Rattle.line.specs.Times.{Line}
 use Rattle.line.specs.declared.parts.Sink.{Sink}
 use Rattle.line.specs.declared.parts.Sink.the-variants.{Inlet, Actuator}
 use Rattle.runs.specs.Lists.{keep, put-all, changed}
-use Rattle.runs.specs.Meaning.{Meaning, Reacted}
+use Rattle.banks.specs.Meaning.{Meaning, Reacted}
 use Rattle.runs.specs.declared.records.Event.{Event}
 use Rattle.runs.specs.declared.records.Running.{Running}
 use Rattle.runs.specs.declared.records.Firing.{Firing}

@@ -51,7 +51,8 @@ impl Project {
     pub fn channels(&self) -> &[Channel]
         ensures { λ r. ⌜ now r ≡ plan (now (self .entry)) .channels ⌝ }
     {
-        self.draft.channels.as_slice()
+        let channels = &self.draft.channels;
+        channels.as_slice()
     }
 
     pub fn lateness(&self, sensor: usize) -> Option<u32>
