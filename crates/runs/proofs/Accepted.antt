@@ -148,8 +148,8 @@ pub record Starts (l : Line) (s : State) (a t : ℕ) : Type 0 where
   pub not-behind : Each (λ (e : Event). (k : ℕ) → Path (l .plan) (e .actor) a k → t < e .timestamp + k) (s .events)
   pub sooner : Sooner l (s .stack) (deadline-at l a t)
   pub in-time : t + longest-delay (l .plan) a ≤ horizon
-  pub event-places : length (started s a t .events) + aside to-inlet (l .plan) (started s a t .stack) ≤ event-room
-  pub output-places : length (s .outputs) + aside to-actuator (l .plan) (started s a t .stack) ≤ output-room
+  pub events-fit : length (started s a t .events) + aside to-inlet (l .plan) (started s a t .stack) ≤ event-room
+  pub outputs-fit : length (s .outputs) + aside to-actuator (l .plan) (started s a t .stack) ≤ output-room
 
 pub first-some : (s : State) (a : ℕ) → isSome (first-at s a) ≡ true → first-at s a ≡ Some (time-at s a)
 first-some s a e = go (first-at s a) e
@@ -207,6 +207,6 @@ accepted l sound s a e =
           );
       sooner = sooner-of l (s .stack) (deadline-at l a t) (h .1 .1 .1 .1 .0);
       in-time = ltb-false horizon _ (unmet _ _ (h .1 .1 .1 .1 .1 .0));
-      event-places = ltb-false event-room _ (unmet _ _ (h .1 .1 .1 .1 .1 .1 .0));
-      output-places = ltb-false output-room _ (unmet _ _ (h .1 .1 .1 .1 .1 .1 .1 .0));
+      events-fit = ltb-false event-room _ (unmet _ _ (h .1 .1 .1 .1 .1 .1 .0));
+      outputs-fit = ltb-false output-room _ (unmet _ _ (h .1 .1 .1 .1 .1 .1 .1 .0));
     }

@@ -1,5 +1,4 @@
--- Two runs with the same arrivals have the same firings as far as both are settled: by induction on time and, within
--- a
+-- Two runs with the same arrivals have the same firings as far as both are settled: by induction on time and, at one
 -- time, on how many actors reach an actor at no delay.
 use mathlib.Core.Path.{_≡_, refl, sym, ap, subst, _∙_}
 use mathlib.Core.List.{List, [], _∷_}

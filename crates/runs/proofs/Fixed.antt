@@ -179,7 +179,8 @@ besides-apart x y h = not-from-false _ (elim (cases-eq (y .actuator) (x .actuato
 
 besides-self : (x : Output) → besides x x ≡ false
 besides-self x =
-    not-from-true _ (and-from _ _ (eq-eqb (x .actuator) (x .actuator) refl) (eq-eqb (x .timestamp) (x .timestamp) refl))
+    not-from-true _ (and-from _ _ (eq-eqb (x .actuator) (x .actuator) refl)
+    (eq-eqb (x .timestamp) (x .timestamp) refl))
 
 all-besides : (x : Output) (ys : List Output) → Each (Apart x) ys → ys ≡ keep (besides x) ys
 all-besides x [] h = refl

@@ -213,8 +213,8 @@ module _ (l : Line) (sound : Sound l) where
 
 pub fitting-open : (p : Plan) (m : Meaning) → Fitting p (fresh m)
 fitting-open p m = record {
-  event-places = omega arith;
-  output-places = omega arith;
+  events-fit = omega arith;
+  outputs-fit = omega arith;
   events-rise = tt;
   outputs-rise = tt;
   events = λ e m. absurd m;
@@ -226,8 +226,8 @@ fitting-open p m = record {
 
 pub fitting-advance : (p : Plan) (s : State) (c : ℕ) → Advances s c → Fitting p s → Fitting p (advanced s c)
 fitting-advance p s c h i = record {
-  event-places = i .event-places;
-  output-places = i .output-places;
+  events-fit = i .events-fit;
+  outputs-fit = i .outputs-fit;
   events-rise = i .events-rise;
   outputs-rise =
       i .outputs-rise;
@@ -241,8 +241,8 @@ fitting-advance p s c h i = record {
 
 pub fitting-close : (p : Plan) (s : State) → Fitting p s → Fitting p (closed s)
 fitting-close p s i = record {
-  event-places = i .event-places;
-  output-places = i .output-places;
+  events-fit = i .events-fit;
+  outputs-fit = i .outputs-fit;
   events-rise = i .events-rise;
   outputs-rise =
       i .outputs-rise;
@@ -256,8 +256,8 @@ fitting-close p s i = record {
 pub fitting-deliver : (p : Plan) (s : State) (d : Delivered) (os : List Output) → Delivers s d os → Fitting p s →
     Fitting p (delivered s os)
 fitting-deliver p s d os h i = record {
-  event-places = i .event-places;
-  output-places = let n = out-length (h .without) in let w = i .output-places in omega arith;
+  events-fit = i .events-fit;
+  outputs-fit = let n = out-length (h .without) in let w = i .outputs-fit in omega arith;
   events-rise = i .events-rise;
   outputs-rise = out-pairs (λ (x y : Output). output-time x ≤ output-time y)
       (h .without) (i .outputs-rise);
@@ -278,11 +278,11 @@ module _ (l : Line) (sound : Sound l) where
   pub fitting-arrive : (s : State) (x t : ℕ) (v : ℤ) → Arrives l s x t → Fitting (l .plan) s →
       Fitting (l .plan) (arrived l s x t v)
   fitting-arrive s x t v h i = record {
-    event-places =
+    events-fit =
         let n = length-put-all event-time (event-at (feed (l .plan) x) t (Some v)) (s .events) in
         let w = event-one (feed (l .plan) x) t (Some v) in
         let r = h .room in omega arith;
-    output-places = i .output-places;
+    outputs-fit = i .outputs-fit;
     events-rise = ordered-put-all event-time (event-at (feed (l .plan) x) t (Some v)) (s .events) (i .events-rise);
     outputs-rise = i .outputs-rise;
     events = each-put-all (Fitting-event (l .plan)) event-time (event-at (feed (l .plan) x) t (Some v)) (s .events)
@@ -309,8 +309,8 @@ module _ (l : Line) (sound : Sound l) where
 
   pub fitting-start : (s : State) (a t : ℕ) → Starts l s a t → Fitting (l .plan) s → Fitting (l .plan) (started s a t)
   fitting-start s a t h i = record {
-    event-places = h .event-places;
-    output-places = h .output-places;
+    events-fit = h .events-fit;
+    outputs-fit = h .outputs-fit;
     events-rise = pairs-keep (λ (x y : Event). event-time x ≤ event-time y) (λ e. not (taken a t e)) (s .events)
         (i .events-rise);
     outputs-rise = i .outputs-rise;
@@ -330,16 +330,16 @@ module _ (l : Line) (sound : Sound l) where
       let top = i .stack f (rw e (inl refl)) in
       let law = sound .lawful in
       record {
-        event-places =
+        events-fit =
             let n = length-put-all event-time (events-sent p g) (s .events) in
             let w = few-events p g in
             let b : length (s .events) + (leading to-inlet p (f .actor) + aside to-inlet p fs) ≤ event-room = rw e at
-            (i .event-places) in omega arith;
-        output-places =
+            (i .events-fit) in omega arith;
+        outputs-fit =
             let n = length-put-all output-time (outputs-sent p g) (s .outputs) in
             let w = few-outputs p g in
             let b : length (s .outputs) + (leading to-actuator p (f .actor) + aside to-actuator p fs) ≤ output-room =
-            rw e at (i .output-places) in omega arith;
+            rw e at (i .outputs-fit) in omega arith;
         events-rise = ordered-put-all event-time (events-sent p g) (s .events) (i .events-rise);
         outputs-rise = ordered-put-all output-time (outputs-sent p g) (s .outputs) (i .outputs-rise);
         events = each-put-all (Fitting-event p) event-time (events-sent p g) (s .events)

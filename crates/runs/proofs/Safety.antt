@@ -135,8 +135,8 @@ bounded l sound s i =
       firings = let w = few (λ (f : Running). f .actor) (length (l .plan .actors)) (s .stack) once
           (λ f n. i .fitting .stack f n .actor) in
           omega (arith, sound .lawful .sized .few-actors);
-      events = let w = i .fitting .event-places in omega arith;
-      outputs = let w = i .fitting .output-places in omega arith;
+      events = let w = i .fitting .events-fit in omega arith;
+      outputs = let w = i .fitting .outputs-fit in omega arith;
     }
 
 -- an accepted start finds a place on the stack
@@ -147,17 +147,17 @@ start-fits l sound s a e i = bounded l sound (started s a (time-at s a))
 pub always-bounded : Always-bounded
 always-bounded l sound m h s r = bounded l sound s (always-safe l sound m h s r)
 
--- the postings of a finish find room: for themselves beside all that waits, and for what the rest of the stack will
--- send
+-- the postings of a finish find room: for themselves beside all that waits, and for what the others of the stack
+-- will send
 pub finish-room : (p : Plan) (s : State) (f : Running) (fs : List Running) (g : List (Option ℤ)) →
     s .stack ≡ f ∷ fs → Fitting p s →
     (length (s .events) + (length (events-sent p (firing-of p f g)) + aside to-inlet p fs) ≤ event-room)
     × (length (s .outputs) + (length (outputs-sent p (firing-of p f g)) + aside to-actuator p fs) ≤ output-room)
 finish-room p s f fs g e i =
     let a : length (s .events) + (leading to-inlet p (f .actor) + aside to-inlet p fs) ≤ event-room = rw e at
-    (i .event-places) in
+    (i .events-fit) in
     let b : length (s .outputs) + (leading to-actuator p (f .actor) + aside to-actuator p fs) ≤ output-room = rw e at
-    (i .output-places) in
+    (i .outputs-fit) in
     let c = few-events p (firing-of p f g) in
     let d = few-outputs p (firing-of p f g) in
     (omega arith, omega arith)

@@ -38,8 +38,8 @@ safe-rows l s w i = record {
     latest = i .causal .latest;
   };
   fitting = record {
-    event-places = i .fitting .event-places;
-    output-places = i .fitting .output-places;
+    events-fit = i .fitting .events-fit;
+    outputs-fit = i .fitting .outputs-fit;
     events-rise = i .fitting .events-rise;
     outputs-rise = i .fitting .outputs-rise;
     events = i .fitting .events;

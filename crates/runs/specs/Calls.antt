@@ -34,10 +34,11 @@ use Rattle.runs.specs.declared.records.Call.the-variants.{Close}
 use Rattle.runs.specs.declared.records.Answer.{Answer}
 use Rattle.runs.specs.declared.records.Answer.the-variants.{Done, Named, Fired, Wrote, Handed, Told, Refused}
 
--- the end of time, and the room for events and for outputs
+-- the last microsecond
 abbrev pub horizon : ℕ
 horizon = 1_000_000_000_000_000
 
+-- places for events and for outputs
 abbrev pub event-room : ℕ
 event-room = 128
 
@@ -51,13 +52,14 @@ pub record Check : Type 0 where
   pub cause : RunCause
   pub place : Option ℕ
 
-abbrev pub check : RunCause → Option ℕ → Check
-check c n = record { cause = c; place = n }
+abbrev pub refuse : RunCause → Option ℕ → Check
+refuse c n = record { cause = c; place = n }
 
 -- a place, where a condition is met
 abbrev pub when : Bool → ℕ → Option ℕ
 when b n = cond b (Some n) None
 
+-- a cause that is met, or else what follows
 abbrev pub first-met : RunCause → Option ℕ → Option Fault → Option Fault
 first-met c None f = f
 first-met c (Some n) f = Some (Fault.Run c n)
@@ -77,11 +79,11 @@ after None s s′ = s′
 after (Some f) s s′ = s
 
 -- places that are held, by what waits and by what the stacked firings will send
-abbrev pub event-places : Line → State → ℕ
-event-places l s = length (s .events) + aside to-inlet (l .plan) (s .stack)
+abbrev pub event-places : Plan → State → ℕ
+event-places p s = length (s .events) + aside to-inlet p (s .stack)
 
-abbrev pub output-places : Line → State → ℕ
-output-places l s = length (s .outputs) + aside to-actuator (l .plan) (s .stack)
+abbrev pub output-places : Plan → State → ℕ
+output-places p s = length (s .outputs) + aside to-actuator p (s .stack)
 
 -- arrive --------------------------------------------------------------------
 
@@ -94,12 +96,13 @@ not-above (Some u) t = when (leb t u) u
 abbrev pub in-window : Line → State → ℕ → ℕ → Bool
 in-window l s x t = leb t (s .clock) && leb (s .clock) (t + lateness (l .plan) x)
 
+-- an arrival adds one event and no output
 abbrev pub arrive-checks : Line → State → ℕ → ℕ → List Check
 arrive-checks l s x t =
-    check NoSuch (when (not (ltb x (length (l .plan .sensors)))) x)
-    ∷ check Window (when (not (in-window l s x t)) (s .clock))
-    ∷ check Stale (not-above (s .last x) t)
-    ∷ check Full (when (ltb event-room (event-places l s + 1)) event-room)
+    refuse NoSuch (when (not (ltb x (length (l .plan .sensors)))) x)
+    ∷ refuse Window (when (not (in-window l s x t)) (s .clock))
+    ∷ refuse Stale (not-above (s .last x) t)
+    ∷ refuse Full (when (ltb event-room (event-places (l .plan) s + 1)) event-room)
     ∷ []
 
 abbrev pub arrive-verdict : Line → State → ℕ → ℕ → Option Fault
@@ -117,11 +120,12 @@ arrive-after l s x t v = after (arrive-verdict l s x t) s (arrived l s x t v)
 abbrev pub due-before : ℕ → List Output → Option ℕ
 due-before c os = least output-time (keep (λ o. ltb (o .timestamp) c) os)
 
+-- the clock may stay as it is, unless an output is due before it
 abbrev pub advance-checks : State → ℕ → List Check
 advance-checks s c =
-    check Back (when (ltb c (s .clock)) (s .clock))
-    ∷ check Horizon (when (ltb horizon c) horizon)
-    ∷ check Due (due-before c (s .outputs))
+    refuse Back (when (ltb c (s .clock)) (s .clock))
+    ∷ refuse Horizon (when (ltb horizon c) horizon)
+    ∷ refuse Due (due-before c (s .outputs))
     ∷ []
 
 abbrev pub advance-verdict : State → ℕ → Option Fault
@@ -135,10 +139,11 @@ advance-after s c = after (advance-verdict s c) s (advanced s c)
 
 -- start ---------------------------------------------------------------------
 
--- the least timestamp that waits at actor a, and that timestamp or 0
+-- the least timestamp that waits at actor a, if an event waits there
 abbrev pub first-at : State → ℕ → Option ℕ
 first-at s a = least event-time (keep (at-actor a) (s .events))
 
+-- that timestamp, and 0 where none waits: a start is then refused before it is used
 abbrev pub time-at : State → ℕ → ℕ
 time-at s a = valueOr (first-at s a) 0
 
@@ -160,6 +165,7 @@ within (Some d) u t = leb (u + d) t
 abbrev pub could-reach : Line → ℕ → ℕ → Event → Bool
 could-reach l a t e = within (l .distance (e .actor) a) (e .timestamp) t
 
+-- events by the number of their actor
 abbrev pub event-actor : Event → ℕ
 event-actor e = e .actor
 
@@ -172,16 +178,17 @@ not-sooner l (f ∷ fs) d = when (leb (deadline-of l f) d) (deadline-of l f)
 abbrev pub early : Line → State → ℕ → ℕ → Bool
 early l s a t = s .taking && leZ (pos (s .clock)) (pos t +ℤ l .wait a)
 
+-- t is the least timestamp that waits at actor a
 abbrev pub start-checks : Line → State → ℕ → ℕ → List Check
 start-checks l s a t =
-    check NoSuch (when (not (ltb a (length (l .plan .actors)))) a)
-    ∷ check Nothing (when (not (isSome (first-at s a))) 0)
-    ∷ check Early (when (early l s a t) (natural (ready-at l a t)))
-    ∷ check Behind (least event-actor (keep (could-reach l a t) (s .events)))
-    ∷ check NotSooner (not-sooner l (s .stack) (deadline-at l a t))
-    ∷ check Horizon (when (ltb horizon (t + longest-delay (l .plan) a)) horizon)
-    ∷ check Full (when (ltb event-room (event-places l (started s a t))) event-room)
-    ∷ check Full (when (ltb output-room (output-places l (started s a t))) output-room)
+    refuse NoSuch (when (not (ltb a (length (l .plan .actors)))) a)
+    ∷ refuse Nothing (when (not (isSome (first-at s a))) 0)
+    ∷ refuse Early (when (early l s a t) (natural (ready-at l a t)))
+    ∷ refuse Behind (least event-actor (keep (could-reach l a t) (s .events)))
+    ∷ refuse NotSooner (not-sooner l (s .stack) (deadline-at l a t))
+    ∷ refuse Horizon (when (ltb horizon (t + longest-delay (l .plan) a)) horizon)
+    ∷ refuse Full (when (ltb event-room (event-places (l .plan) (started s a t))) event-room)
+    ∷ refuse Full (when (ltb output-room (output-places (l .plan) (started s a t))) output-room)
     ∷ []
 
 abbrev pub start-verdict : Line → State → ℕ → Option Fault
@@ -213,9 +220,11 @@ pub record Picked (l : Line) (s : State) (a : ℕ) : Type 0 where
   pub startable : Startable l s a
   pub ahead : (b : ℕ) → Startable l s b → Ahead l s a b
 
+-- there is nothing to do
 abbrev pub nothing : Fault
 nothing = Fault.Run Nothing 0
 
+-- pick names that actor, and answers that there is nothing exactly where start would accept none
 abbrev pub Pick-answers : Line → State → Answer → Type 0
 Pick-answers l s Done = ⊥
 Pick-answers l s (Named a) = Picked l s a
@@ -227,6 +236,7 @@ Pick-answers l s (Refused f) = (f ≡ nothing) × ((a : ℕ) → Startable l s a
 
 -- finish --------------------------------------------------------------------
 
+-- finish reads the stack: it works on the top
 abbrev pub finish-answer : Plan → Meaning → State → List Running → Answer
 finish-answer p m s [] = Refused nothing
 finish-answer p m s (f ∷ fs) = Wrote (firing p m s f)
@@ -237,6 +247,7 @@ finish-after l m s (f ∷ fs) = finished l m s f fs
 
 -- deliver -------------------------------------------------------------------
 
+-- what was handed out, without the late mark
 abbrev pub output-of : Delivered → Output
 output-of d = record { actuator = d .actuator; timestamp = d .timestamp; value = d .value }
 
@@ -247,6 +258,7 @@ pub record Delivers (s : State) (d : Delivered) (os : List Output) : Type 0 wher
   pub least : Each (λ (o : Output). d .timestamp ≤ o .timestamp) (s .outputs)
   pub late : d .late ≡ ltb (d .timestamp) (s .clock)
 
+-- deliver hands one out, and answers that there is nothing exactly where none is due
 abbrev pub Deliver-outcome : State → Answer → State → Type 0
 Deliver-outcome s Done s′ = ⊥
 Deliver-outcome s (Named a) s′ = ⊥

@@ -40,8 +40,8 @@ pub record Equal-records (h k : Journal) : Type 0 where
   pub actors : (a : ℕ) → actor-record h a ≡ actor-record k a
   pub actuators : (q : ℕ) → actuator-record h q ≡ actuator-record k q
 
--- two complete runs of one line over banks of equal meaning have equal records exactly when each sensor gave both the
--- same events
+-- two complete runs of one line over banks of equal meaning have equal records exactly when each sensor gave both
+-- the same events
 abbrev pub Events-fix-records : Type 0
 Events-fix-records = (l : Line) → Sound l → (m j : Meaning) → Alike (length (l .plan .actors)) m j →
     (h k : Journal) (s z : State) → Runs l m h s → Runs l j k z → Complete s → Complete z →
@@ -51,11 +51,12 @@ Events-fix-records = (l : Line) → Sound l → (m j : Meaning) → Alike (lengt
 abbrev pub Begins : {A : Type 0} → List A → List A → Type 0
 Begins {A} xs ys = (rest : List A) × (ys ≡ xs ++ rest)
 
--- runs that stop at any moment: where each sensor gave both the same events, of two records of an actor one is a
--- beginning of the other, and so are those of an actuator
+-- one of two lists is a beginning of the other
 abbrev pub Either-begins : {A : Type 0} → List A → List A → Type 0
 Either-begins xs ys = Begins xs ys ⊎ Begins ys xs
 
+-- of runs that stop at any moment: where each sensor gave both the same events, one of an actor's two records is a
+-- beginning of the other, and so for each actuator
 abbrev pub Events-fix-beginnings : Type 0
 Events-fix-beginnings = (l : Line) → Sound l → (m j : Meaning) → Alike (length (l .plan .actors)) m j →
     (h k : Journal) (s z : State) → Runs l m h s → Runs l j k z → Equal-events h k →
@@ -70,8 +71,7 @@ pub record Orderly (l : Line) (h : Journal) (s : State) : Type 0 where
   pub rising : (a : ℕ) → Pairs (λ (f g : Started). f .timestamp < g .timestamp) (firings h a)
   -- the deadlines of stacked firings strictly fall towards the top
   pub falling : Pairs (λ (f g : Running). deadline-of l f < deadline-of l g) (s .stack)
-  -- an actuator's n-th output handed out is the n-th posted to it, and went at the later of its timestamp and its
-  -- posting
+  -- an actuator's n-th output handed out is the n-th posted to it, and went at the later of timestamp and posting
   pub punctual : (q : ℕ) →
       Begins (for-actuator q (handings 0 h)) (map when-due (for-actuator q (postings (l .plan) 0 h)))
 
@@ -129,6 +129,7 @@ Same-answer Deliver r q =
 Same-answer Report r q = r ≡ q
 Same-answer Close r q = r ≡ q
 
+-- line, bank, state and call fix the answer so far
 abbrev pub State-fixes-answer : Type 0
 State-fixes-answer = (l : Line) (m : Meaning) (s : State) (c : Call) (r q : Answer) (y z : State) →
     Outcome l m s c r y → Outcome l m s c q z → Same-answer c r q
@@ -145,11 +146,11 @@ pub record Names (l : Line) (m : Meaning) (s : State) : Type 0 where
   pub one : (a : ℕ) × Outcome l m s Pick (Named a) s
   pub only : (r : Answer) (z : State) → Outcome l m s Pick r z → (a : ℕ) × (r ≡ Named a)
 
+-- what a closed runtime can do next
 pub record Moves (l : Line) (m : Meaning) (s : State) : Type 0 where
   -- with a firing running finish is accepted
   pub finishes : (f : Running) → In f (s .stack) → (g : Firing) × (z : State) × Outcome l m s Finish (Wrote g) z
-  -- with none running and an event waiting pick names an actor, unless start would refuse some actor as Full or
-  -- Horizon
+  -- with none running and an event waiting pick names an actor, unless start would refuse one as Full or Horizon
   pub picks : s .stack ≡ [] → (e : Event) → In e (s .events) → Names l m s ⊎ ((a : ℕ) × Blocked l s a)
 
 -- a closed runtime never sticks

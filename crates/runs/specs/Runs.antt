@@ -27,8 +27,7 @@ abbrev pub Journal : Type 0
 Journal = List Step
 
 -- the journal is a run of the line over the bank from open, and ends in the state: each call, accepted or refused,
--- had
--- an outcome that the call may have
+-- had an outcome that it may have
 pub data Runs (l : Line) (m : Meaning) : Journal → State → Type 0 where
   opened : Runs l m [] (fresh m)
   next : {h : Journal} {s s′ : State} (x : Step) → Runs l m h s → Outcome l m s (x .call) (x .answer) s′ →
@@ -52,6 +51,7 @@ if-done (Handed d) x y = y
 if-done (Told r) x y = y
 if-done (Refused f) x y = y
 
+-- what one call tells: an accepted arrival, an accepted start, a firing written, an output handed out
 abbrev pub arrival-in : Call → Answer → List Arrival
 arrival-in (Arrive x t v) r = if-done r (record { sensor = x; timestamp = t; value = v } ∷ []) []
 arrival-in (Advance c) r = []
@@ -141,6 +141,7 @@ pub record Timed : Type 0 where
 abbrev pub at-clock : ℕ → Output → Timed
 at-clock c o = record { output = o; clock = c }
 
+-- several outputs at one clock
 abbrev pub all-at : ℕ → List Output → List Timed
 all-at c os = map (at-clock c) os
 

@@ -12,8 +12,8 @@ use Rattle.line.specs.Plan.{Plan}
 use Rattle.line.specs.Paths.{Path}
 use Rattle.line.specs.Times.{Line}
 use Rattle.runs.specs.Lists.{Each, Pairs, Ordered}
-use Rattle.runs.specs.State.{State, event-time, output-time, aside, to-inlet, to-actuator, deadline-of, longest-delay}
-use Rattle.runs.specs.Calls.{horizon, event-room, output-room}
+use Rattle.runs.specs.State.{State, event-time, output-time, deadline-of, longest-delay}
+use Rattle.runs.specs.Calls.{horizon, event-room, output-room, event-places, output-places}
 use Rattle.runs.specs.declared.records.Event.{Event}
 use Rattle.runs.specs.declared.records.Running.{Running}
 use Rattle.runs.specs.declared.records.Output.{Output}
@@ -22,7 +22,7 @@ use Rattle.runs.specs.declared.records.Output.{Output}
 abbrev pub Reach : Plan → ℕ → ℕ → ℕ → Type 0
 Reach p b a n = ((b ≡ a) × (n ≡ 0)) ⊎ Path p b a n
 
--- t is above u, if there is a u
+-- t is above the number, if there is one
 abbrev pub Above : Option ℕ → ℕ → Type 0
 Above None t = Unit {0}
 Above (Some u) t = u < t
@@ -42,24 +42,27 @@ pub record Causal (l : Line) (T : ℕ → Option ℕ) (s : State) : Type 0 where
   -- a stacked firing is its actor's latest start
   pub latest : Each (λ (f : Running). T (f .actor) ≡ Some (f .timestamp)) (s .stack)
 
+-- an event at an inlet of an actor of the plan, in time
 pub record Fitting-event (p : Plan) (e : Event) : Type 0 where
   pub actor : e .actor < length (p .actors)
   pub inlet : e .inlet < 4
   pub timestamp : e .timestamp ≤ horizon
 
+-- a firing of an actor of the plan whose outlets send in time
 pub record Fitting-firing (p : Plan) (f : Running) : Type 0 where
   pub actor : f .actor < length (p .actors)
   pub inlets : length (f .inlets) ≡ 4
   pub timestamp : f .timestamp + longest-delay p (f .actor) ≤ horizon
 
+-- an output for an actuator of the plan, in time
 pub record Fitting-output (p : Plan) (o : Output) : Type 0 where
   pub actuator : o .actuator < p .actuators
   pub timestamp : o .timestamp ≤ horizon
 
 -- there is room for all that waits and all that the stack will send, lists are in order, and numbers are in range
 pub record Fitting (p : Plan) (s : State) : Type 0 where
-  pub event-places : length (s .events) + aside to-inlet p (s .stack) ≤ event-room
-  pub output-places : length (s .outputs) + aside to-actuator p (s .stack) ≤ output-room
+  pub events-fit : event-places p s ≤ event-room
+  pub outputs-fit : output-places p s ≤ output-room
   pub events-rise : Ordered event-time (s .events)
   pub outputs-rise : Ordered output-time (s .outputs)
   pub events : Each (Fitting-event p) (s .events)
@@ -68,6 +71,7 @@ pub record Fitting (p : Plan) (s : State) : Type 0 where
   pub clock : s .clock ≤ horizon
   pub last : (x t : ℕ) → s .last x ≡ Some t → t ≤ s .clock
 
+-- no firing is overtaken, for some record of the latest starts, and all fits
 pub record Safe (l : Line) (s : State) : Type 0 where
   pub starts : ℕ → Option ℕ
   pub causal : Causal l starts s

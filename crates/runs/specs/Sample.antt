@@ -1,6 +1,5 @@
--- A sample line, and a run of it: two sensors at the two inlets of a count, a pass with a delay behind it, another
--- pass
--- behind that, and an actuator.
+-- A sample line, and a run of it: two sensors at the two inlets of a count, behind it a pass with a delay, behind
+-- that another pass, and an actuator.
 use mathlib.Core.List.{List, [], _∷_}
 use mathlib.Core.Bool.{false, cond}
 use Prim.Native.Nat.{ℕ, zero, suc}

@@ -20,8 +20,7 @@ use Rattle.runs.specs.declared.records.Firing.{Firing}
 use Rattle.runs.specs.declared.records.Output.{Output}
 
 -- the clock; whether events are still taken in; the last timestamp of each sensor; the events that wait, by
--- timestamp;
--- the stack of firings, its top first; the outputs that wait, by timestamp; and the row of each actor
+-- timestamp; the stack of firings, its top first; the outputs that wait, by timestamp; the row of each actor
 pub record State : Type 0 where
   pub clock : ℕ
   pub taking : Bool
@@ -50,19 +49,21 @@ fresh m = record
 
 -- ports ---------------------------------------------------------------------
 
--- the outlets of an actor, and its inlets
+-- the numbers of an actor's inlets, and of its outlets
 abbrev pub ports : List ℕ
 ports = 0 ∷ 1 ∷ 2 ∷ 3 ∷ []
 
+-- four ports, each a value or absent
 abbrev pub four : (ℕ → Option ℤ) → List (Option ℤ)
 four f = f 0 ∷ f 1 ∷ f 2 ∷ f 3 ∷ []
 
--- what stands at a port: a value, or nothing
+-- what stands at a port; nothing stands at a fifth one
 abbrev pub port : List (Option ℤ) → ℕ → Option ℤ
 port g i = getD g i None
 
 -- sending -------------------------------------------------------------------
 
+-- the rank by which events and outputs wait
 abbrev pub event-time : Event → ℕ
 event-time e = e .timestamp
 
@@ -98,6 +99,7 @@ outputs-sent p g = joined (output-from p g) ports
 
 -- room ----------------------------------------------------------------------
 
+-- a channel that ends at an inlet, and one that ends at an actuator
 abbrev pub to-inlet : Option Sink → Bool
 to-inlet None = false
 to-inlet (Some (Inlet a i)) = true
@@ -126,6 +128,7 @@ deadline-at l a t = t + l .deadline a
 abbrev pub deadline-of : Line → Running → ℕ
 deadline-of l f = deadline-at l (f .actor) (f .timestamp)
 
+-- a delay, 0 where no channel leaves
 abbrev pub wired-delay : Option Sink → ℕ → ℕ
 wired-delay None d = 0
 wired-delay (Some k) d = d
@@ -138,6 +141,7 @@ longest-delay p a =
 
 -- starting ------------------------------------------------------------------
 
+-- an event that waits at actor a
 abbrev pub at-actor : ℕ → Event → Bool
 at-actor a e = eqb (e .actor) a
 
@@ -157,6 +161,7 @@ running s a t = record
 
 -- finishing -----------------------------------------------------------------
 
+-- a value, absent where no channel leaves
 abbrev pub wired : Option Sink → Option ℤ → Option ℤ
 wired None v = None
 wired (Some k) v = v
@@ -170,6 +175,7 @@ abbrev pub firing-of : Plan → Running → List (Option ℤ) → Firing
 firing-of p f g = record
     { actor = f .actor; timestamp = f .timestamp; inlets = f .inlets; outlets = shown p (f .actor) g }
 
+-- what the bank's reaction makes of a stacked firing
 abbrev pub reacted : Meaning → State → Running → Reacted
 reacted m s f = m .reaction (f .actor) (s .rows (f .actor)) (f .timestamp) (f .inlets)
 
@@ -179,6 +185,7 @@ firing p m s f = firing-of p f (reacted m s f .outlets)
 
 -- what accepted calls leave ---------------------------------------------------
 
+-- the event waits at the inlet that the sensor feeds
 abbrev pub arrived : Line → State → ℕ → ℕ → ℤ → State
 arrived l s x t v = record {
   clock = s .clock;
@@ -201,6 +208,7 @@ advanced s c = record {
   rows = s .rows;
 }
 
+-- the events taken are stacked as one firing
 abbrev pub started : State → ℕ → ℕ → State
 started s a t = record {
   clock = s .clock;
@@ -212,7 +220,7 @@ started s a t = record {
   rows = s .rows;
 }
 
--- f is the top of the stack and fs the rest; r is what the reaction gave
+-- f was the top of the stack and fs the rest; r is what the reaction gave: it is sent on, and the row is kept
 abbrev pub unstacked : Line → State → Running → List Running → Reacted → State
 unstacked l s f fs r = record {
   clock = s .clock;
@@ -227,6 +235,7 @@ unstacked l s f fs r = record {
 abbrev pub finished : Line → Meaning → State → Running → List Running → State
 finished l m s f fs = unstacked l s f fs (reacted m s f)
 
+-- os are the outputs that are left
 abbrev pub delivered : State → List Output → State
 delivered s os = record {
   clock = s .clock;
@@ -238,6 +247,7 @@ delivered s os = record {
   rows = s .rows;
 }
 
+-- the same content, but no more events
 abbrev pub closed : State → State
 closed s = record {
   clock = s .clock;

@@ -1,3 +1,6 @@
+// What a runtime holds, is asked and answers.
+ghost use mathlib.Core.Path.{_≡_};
+ghost use Rattle.std.specs.Orderings.{Decides};
 use fault::Fault;
 use fault::FaultDebug;
 use fault::FaultPartialEq;
@@ -12,7 +15,7 @@ pub struct Event {
 }
 
 // A firing that has started and has not finished: a place of the stack.
-#[derive(Clone, Copy, PartialEq, Eq, Debug)]
+#[derive(Clone, Copy, Debug)]
 pub struct Running {
     pub actor: u8,
     pub timestamp: u64,
@@ -20,7 +23,7 @@ pub struct Running {
 }
 
 // A finished firing: what went in and what came out.
-#[derive(Clone, Copy, PartialEq, Eq, Debug)]
+#[derive(Clone, Copy, Debug)]
 pub struct Firing {
     pub actor: u8,
     pub timestamp: u64,
@@ -97,3 +100,50 @@ pub struct Step {
     pub call: Call,
     pub answer: Answer,
 }
+
+// Equality of arrays is not derived, so it is written out here: every record decides what `==` says.
+fn same_port(a: Option<i32>, b: Option<i32>) -> bool
+    ensures { λ r. ⌜ Decides r (a ≡ b) ⌝ }
+{
+    match (a, b) {
+        (Some(x), Some(y)) => x == y,
+        (None, None) => true,
+        _ => false,
+    }
+}
+
+fn same_ports(a: [Option<i32>; 4], b: [Option<i32>; 4]) -> bool
+    ensures { λ r. ⌜ Decides r (a ≡ b) ⌝ }
+{
+    for i in 0..4 {
+        if !same_port(a[i], b[i]) {
+            return false;
+        }
+    }
+    true
+}
+
+pub impl PartialEq<Running> for Running as RunningPartialEq {
+    ghost equals = { λ x y r. Decides r (x ≡ y) };
+
+    fn eq(&self, other: &Running) -> bool {
+        self.actor == other.actor
+            && self.timestamp == other.timestamp
+            && same_ports(self.inlets, other.inlets)
+    }
+}
+
+pub impl Eq for Running as RunningEq {}
+
+pub impl PartialEq<Firing> for Firing as FiringPartialEq {
+    ghost equals = { λ x y r. Decides r (x ≡ y) };
+
+    fn eq(&self, other: &Firing) -> bool {
+        self.actor == other.actor
+            && self.timestamp == other.timestamp
+            && same_ports(self.inlets, other.inlets)
+            && same_ports(self.outlets, other.outlets)
+    }
+}
+
+pub impl Eq for Firing as FiringEq {}
