@@ -1,10 +1,10 @@
 -- Records in range: none of their fields is refused, and their bytes tell them apart.
-use mathlib.Core.Path.{_≡_, refl, sym, ap, subst, _∙_}
+use mathlib.Core.Path.{_≡_, refl, sym, ap, _∙_}
 use mathlib.Core.List.{List, [], _∷_, _++_}
-use mathlib.Core.Logic.{inl, inr, ⊎-elim}
-use Prim.Native.Nat.{ℕ, zero, suc, _+_, _^_, _≤_, _<_}
+use mathlib.Core.Logic.{⊎-elim}
+use Prim.Native.Nat.{ℕ, zero, suc, _+_, _≤_}
 use native.Mathlib.Omega.{arith}
-use lib.IntN.{ℤ, pos, negsuc}
+use lib.IntN.{ℤ}
 use lib.ListN.{length, take, drop, getD}
 use mir.Syntax.{w32}
 use mir.Val.{toZ, ofZ, SFits}
@@ -44,7 +44,8 @@ bits z w = val-le 4 (ofZ w32 z) (ofZ-fits w32 z (word-fits z w) .fits)
 
 -- sensors
 
-pub sensor-clean : (bs : List ℕ) (b l : ℕ) → l ≤ longest → sensor-bytes l ≡ between b 4 bs → Nowhere (BadSensorField bs b)
+pub sensor-clean : (bs : List ℕ) (b l : ℕ) → l ≤ longest → sensor-bytes l ≡ between b 4 bs
+    → Nowhere (BadSensorField bs b)
 sensor-clean bs b l h e k x = omega (arith, x .1, ap val (sym e) ∙ four l h)
 
 pub sensor-same : (l m : ℕ) → l ≤ longest → m ≤ longest → sensor-bytes l ≡ sensor-bytes m → l ≡ m
@@ -70,7 +71,8 @@ few-kinds Scale = omega arith
 few-kinds Sort = omega arith
 few-kinds Other = omega arith
 
-pub actor-clean : (bs : List ℕ) (b : ℕ) (x : Actor) → Possible x → actor-bytes x ≡ between b 9 bs → Nowhere (BadActorField bs b)
+pub actor-clean : (bs : List ℕ) (b : ℕ) (x : Actor) → Possible x → actor-bytes x ≡ between b 9 bs
+    → Nowhere (BadActorField bs b)
 actor-clean bs b x h e k bad =
     let p = le 4 (ofZ w32 (x .parameter)) in
     let d = le 4 (x .delay) in
@@ -78,11 +80,15 @@ actor-clean bs b x h e k bad =
     let two = parts p d bs (b + 1) 4 4 refl (one .1) in
     let five : b + 1 + 4 ≡ b + 5 = omega arith in
     let zero : b + 0 ≡ b = omega arith in
-    let kind : byte bs b ≡ kind-number (x .kind) = ap (byte bs) (sym zero) ∙ byte-of bs b 1 0 (omega arith) ∙ ap (λ s. getD s 0 0) (sym (one .0)) in
-    let word : ofZ w32 (x .parameter) ≡ val (between (b + 1) 4 bs) = sym (bits (x .parameter) (h .number)) ∙ ap val (two .0) in
-    let late : x .delay ≡ val (between (b + 5) 4 bs) = sym (four (x .delay) (h .delay)) ∙ ap val (two .1 ∙ ap (λ m. between m 4 bs) five) in
+    let kind : byte bs b ≡ kind-number (x .kind) = ap (byte bs) (sym zero) ∙ byte-of bs b 1 0 (omega arith)
+    ∙ ap (λ s. getD s 0 0) (sym (one .0)) in
+    let word : ofZ w32 (x .parameter) ≡ val (between (b + 1) 4 bs) = sym (bits (x .parameter) (h .number))
+    ∙ ap val (two .0) in
+    let late : x .delay ≡ val (between (b + 5) 4 bs) = sym (four (x .delay) (h .delay))
+    ∙ ap val (two .1 ∙ ap (λ m. between m 4 bs) five) in
     ⊎-elim (λ y. omega (arith, y .1, kind, few-kinds (x .kind)))
-    (⊎-elim (λ y. y .2 (h .parameter (low-plain (x .kind) (omega (arith, kind, y .1))))) (λ y. omega (arith, y .1, h .delay)))
+    (⊎-elim (λ y. y .2 (h .parameter (low-plain (x .kind) (omega (arith, kind, y .1)))))
+    (λ y. omega (arith, y .1, h .delay)))
     (actor-fields bs b (x .parameter) (x .delay) (word-fits (x .parameter) (h .number)) word late .back k bad)
 
 kind-at : ℕ → Kind
@@ -111,10 +117,15 @@ actor-same x y h h′ e =
     = sym (bits (x .parameter) (h .number)) ∙ ap (λ s. val (take 4 (drop 1 s))) e ∙ bits (y .parameter) (h′ .number) in
     let p : x .parameter ≡ y .parameter
     = sym (toZ-ofZ w32 _ (word-fits _ (h .number))) ∙ ap (toZ w32) w ∙ toZ-ofZ w32 _ (word-fits _ (h′ .number)) in
-    let d : x .delay ≡ y .delay = sym (four (x .delay) (h .delay)) ∙ ap (λ s. val (take 4 (drop 5 s))) e ∙ four (y .delay) (h′ .delay) in
+    let d : x .delay ≡ y .delay = sym (four (x .delay) (h .delay)) ∙ ap (λ s. val (take 4 (drop 5 s))) e
+    ∙ four (y .delay) (h′ .delay) in
     λ i. record { kind = k i; parameter = p i; delay = d i }
 
 -- channels
+
+halves : (x s y t : List ℕ) (n : ℕ) → length x ≡ n → length y ≡ n → x ++ s ≡ y ++ t → (x ≡ y) × (s ≡ t)
+halves x s y t n l m e =
+    (sym (take-at x s n l) ∙ ap (take n) e ∙ take-at y t n m, sym (drop-at x s n l) ∙ ap (drop n) e ∙ drop-at y t n m)
 
 module _ (n : Counts) (p : Plan) (fits : Counted n p) where
   source-clean : (x : Source) (a b c : ℕ) → Begins p x → source-bytes x ≡ a ∷ b ∷ c ∷ [] → Nowhere (BadSource n a b c)
@@ -128,17 +139,18 @@ module _ (n : Counts) (p : Plan) (fits : Counted n p) where
   sink-clean (Outlet s o) (Inlet m i) a b c h apart e k bad = grind (arith, fits .actors, fits .actuators)
   sink-clean (Outlet s o) (Actuator q) a b c h apart e k bad = grind (arith, fits .actors, fits .actuators)
 
-pub channel-clean : (bs : List ℕ) (b : ℕ) (p : Plan) (x : Channel) → Counted (counts-at bs) p → b + 6 ≤ length bs → Proper p x
+pub channel-clean : (bs : List ℕ) (b : ℕ) (p : Plan) (x : Channel) → Counted (counts-at bs) p → b + 6 ≤ length bs
+    → Proper p x
     → channel-bytes x ≡ between b 6 bs → Nowhere (BadChannelField bs b)
 channel-clean bs b p x fits room h e k bad =
-    let six = e ∙ sym (bytes-six bs b room) in
-    let source : source-bytes (x .source) ≡ byte bs b ∷ byte bs (b + 1) ∷ byte bs (b + 2) ∷ []
-    = sym (take-at (source-bytes (x .source)) (sink-bytes (x .sink)) 3 (length-source (x .source))) ∙ ap (take 3) six in
-    let sink : sink-bytes (x .sink) ≡ byte bs (b + 3) ∷ byte bs (b + 4) ∷ byte bs (b + 5) ∷ []
-    = sym (drop-at (source-bytes (x .source)) (sink-bytes (x .sink)) 3 (length-source (x .source))) ∙ ap (drop 3) six in
-    ⊎-elim (source-clean (counts-at bs) p fits (x .source) _ _ _ (h .source) source k)
-    (sink-clean (counts-at bs) p fits (x .source) (x .sink) _ _ _ (h .sink) (h .no-bypass) sink k)
-    (fields bs b (counts-at bs) refl (source-sort (x .source)) (sort-of (x .source) source) .back k bad)
+    let bytes = byte bs b ∷ byte bs (b + 1) ∷ byte bs (b + 2) ∷ [] in
+    let bytes′ = byte bs (b + 3) ∷ byte bs (b + 4) ∷ byte bs (b + 5) ∷ [] in
+    let sources = source-bytes (x .source) in
+    let both = halves sources (sink-bytes (x .sink)) bytes bytes′ 3 (length-source (x .source)) refl
+    (e ∙ sym (bytes-six bs b room)) in
+    ⊎-elim (source-clean (counts-at bs) p fits (x .source) _ _ _ (h .source) (both .0) k)
+    (sink-clean (counts-at bs) p fits (x .source) (x .sink) _ _ _ (h .sink) (h .no-bypass) (both .1) k)
+    (fields bs b (counts-at bs) refl (source-sort (x .source)) (sort-of (x .source) (both .0)) .back k bad)
 
 source-same : (x y : Source) → source-bytes x ≡ source-bytes y → x ≡ y
 source-same (Sensor s) (Sensor t) e = cc
@@ -154,8 +166,7 @@ sink-same (Actuator s) (Actuator t) e = cc
 
 pub channel-same : (x y : Channel) → channel-bytes x ≡ channel-bytes y → x ≡ y
 channel-same x y e =
-    let s = source-same (x .source) (y .source)
-    (sym (take-at _ (sink-bytes (x .sink)) 3 (length-source (x .source))) ∙ ap (take 3) e ∙ take-at _ (sink-bytes (y .sink)) 3 (length-source (y .source))) in
-    let t = sink-same (x .sink) (y .sink)
-    (sym (drop-at (source-bytes (x .source)) _ 3 (length-source (x .source))) ∙ ap (drop 3) e ∙ drop-at (source-bytes (y .source)) _ 3 (length-source (y .source))) in
+    let both = halves _ _ _ _ 3 (length-source (x .source)) (length-source (y .source)) e in
+    let s = source-same (x .source) (y .source) (both .0) in
+    let t = sink-same (x .sink) (y .sink) (both .1) in
     λ i. record { source = s i; sink = t i }

@@ -1,5 +1,5 @@
 -- Images of plans in range: none is refused, and no two plans have one.
-use mathlib.Core.Path.{_≡_, refl, sym, ap, subst, _∙_}
+use mathlib.Core.Path.{_≡_, refl, sym, ap, _∙_}
 use mathlib.Core.List.{List, [], _∷_, _++_}
 use mathlib.Core.Logic.{inl, inr, ⊎-elim}
 use Prim.Native.Nat.{ℕ, zero, suc, _+_, _*_, _≤_, _<_}
@@ -15,11 +15,10 @@ use Rattle.fault.specs.declared.Fault.{Fault}
 use Rattle.fault.specs.declared.Fault
 use Rattle.line.specs.Lists.{In}
 use Rattle.line.specs.Plan.{Plan, nobody}
-use Rattle.line.specs.Rules.{Sized, Ranged, Possible, Proper, longest, no-channel}
-use Rattle.line.specs.declared.parts.Channel.{Channel}
+use Rattle.line.specs.Rules.{Sized, Ranged, no-channel}
 use Rattle.image.specs.Bytes.{between}
 use Rattle.image.specs.Drafts.{counts-at}
-use Rattle.image.specs.Encoding.{image, mark, counts, size, sensor-bytes, actor-bytes, channel-bytes}
+use Rattle.image.specs.Encoding.{image, mark, counts, sensor-bytes, actor-bytes, channel-bytes}
 use Rattle.image.specs.Fields.{BadSensorField, Counted}
 use Rattle.image.specs.Reading.{Nowhere, BadField}
 use Rattle.image.specs.Refusals.{byte, most, BadActorField, BadChannelField, Uncounted, Unmarked, Faulty}
@@ -40,7 +39,8 @@ room x bs b n l h e =
 
 module _ (p : Plan) (s : Sized p) (r : Ranged p) where
   no-mark : Nowhere (Unmarked (image p))
-  no-mark k = ⊎-elim (λ b. b .2 (getD-append-left mark (counts p ++ records p) 0 k (b .0))) (λ b. omega (arith, b .0, image-length p))
+  no-mark k = ⊎-elim (λ b. b .2 (getD-append-left mark (counts p ++ records p) 0 k (b .0)))
+      (λ b. omega (arith, b .0, image-length p))
 
   counted : (i : ℕ) → i < 4 → (1 ≤ getD (counts p) i 0) × (getD (counts p) i 0 ≤ most i)
   counted zero l = (s .some-sensor, s .few-sensors)
@@ -69,7 +69,8 @@ module _ (p : Plan) (s : Sized p) (r : Ranged p) where
       (row-clean channel-bytes 6 length-channel (image p) BadChannelField (p .channels) _ no-channel (channels-at p)
       (λ i at l e.
       let x = getD (p .channels) i no-channel in
-      channel-clean (image p) at p x fits (room _ (image p) at 6 (length-channel x) (omega arith) e) (r .channels x (in-getD (p .channels) i no-channel l)) e)
+      channel-clean (image p) at p x fits (room _ (image p) at 6 (length-channel x) (omega arith) e)
+      (r .channels x (in-getD (p .channels) i no-channel l)) e)
       k))
 
   pub sound-image : (f : Fault) → entry f .number ≤ 4 → Faulty (image p) f → ⊥
@@ -85,10 +86,12 @@ module _ (p : Plan) (s : Sized p) (r : Ranged p) where
   sound-image (Fault.Run cause k) h x = x
 
 -- records of one width that stand at one place of the same bytes
-same-rows : {X : Type 0} (f : X → List ℕ) (w : ℕ) → ((x : X) → length (f x) ≡ w) → (xs ys : List X) (bs cs : List ℕ) (at to : ℕ) (d : X)
+same-rows : {X : Type 0} (f : X → List ℕ) (w : ℕ) → ((x : X) → length (f x) ≡ w)
+    → (xs ys : List X) (bs cs : List ℕ) (at to : ℕ) (d : X)
     → bs ≡ cs → at ≡ to → length xs ≡ length ys
     → joined f xs ≡ between at (w * length xs) bs → joined f ys ≡ between to (w * length ys) cs
-    → ((i : ℕ) → i < length xs → i < length ys → f (getD xs i d) ≡ f (getD ys i d) → getD xs i d ≡ getD ys i d) → xs ≡ ys
+    → ((i : ℕ) → i < length xs → i < length ys → f (getD xs i d) ≡ f (getD ys i d) → getD xs i d ≡ getD ys i d)
+    → xs ≡ ys
 same-rows f w even xs ys bs cs at to d same here many e g apart =
     ext-getD d xs ys many (λ i l.
     let l′ : i < length ys = omega arith in
@@ -100,12 +103,13 @@ one-plan p q s r s′ r′ e =
     let ls : length (p .sensors) ≡ length (q .sensors) = ap (λ b. byte b 5) e in
     let la : length (p .actors) ≡ length (q .actors) = ap (λ b. byte b 6) e in
     let lc : length (p .channels) ≡ length (q .channels) = ap (λ b. byte b 8) e in
-    let a : 9 + 4 * length (p .sensors) ≡ 9 + 4 * length (q .sensors) = omega arith in
-    let c : 9 + 4 * length (p .sensors) + 9 * length (p .actors) ≡ 9 + 4 * length (q .sensors) + 9 * length (q .actors) = omega arith in
+    let a = ap (λ n. 9 + 4 * n) ls in
+    let c : 9 + 4 * length (p .sensors) + 9 * length (p .actors) ≡ 9 + 4 * length (q .sensors) + 9 * length (q .actors)
+    = omega arith in
     let sensors = same-rows sensor-bytes 4 (λ x. refl) (p .sensors) (q .sensors) (image p) (image q) 9 9 0 e refl ls
     (sensors-at p) (sensors-at q) (λ i l l′. sensor-same _ _ (r .latenesses i l) (r′ .latenesses i l′)) in
     let actors = same-rows actor-bytes 9 (λ x. refl) (p .actors) (q .actors) (image p) (image q) _ _ nobody e a la
     (actors-at p) (actors-at q) (λ i l l′. actor-same _ _ (r .actors i l) (r′ .actors i l′)) in
-    let channels = same-rows channel-bytes 6 length-channel (p .channels) (q .channels) (image p) (image q) _ _ no-channel e c lc
-    (channels-at p) (channels-at q) (λ i l l′. channel-same _ _) in
+    let channels = same-rows channel-bytes 6 length-channel (p .channels) (q .channels) (image p) (image q)
+    _ _ no-channel e c lc (channels-at p) (channels-at q) (λ i l l′. channel-same _ _) in
     λ i. record { sensors = sensors i; actors = actors i; actuators = byte (e i) 7; channels = channels i }

@@ -10,33 +10,21 @@ use mir.Syntax.{w32}
 use mir.Val.{toZ, ofZ, SFits}
 use Rattle.std.proofs.shelf.Lists.{drop-more}
 use Rattle.std.proofs.shelf.Signed.{toZ-ofZ}
-use Rattle.line.specs.Rules.{Plain, longest}
-use Rattle.line.specs.declared.parts.Kind.{Kind}
-use Rattle.line.specs.declared.parts.Kind.the-variants.{Pass, Count, Gate, Toggle, Scale, Sort, Other}
+use Rattle.line.specs.Rules.{longest}
 use Rattle.line.specs.declared.parts.Source.{Source}
 use Rattle.line.specs.declared.parts.Source.the-variants.{Sensor, Outlet}
-use Rattle.image.specs.Bytes.{le, val, between}
+use Rattle.image.specs.Bytes.{val, between}
 use Rattle.image.specs.Drafts.{counts-at}
-use Rattle.image.specs.Encoding.{kind-number, source-bytes}
-use Rattle.image.specs.Fields.{BadActorOf, BadSource, BadSink, fields-bytes, source-sort}
+use Rattle.image.specs.Encoding.{source-bytes}
+use Rattle.image.specs.Fields.{BadActorOf, BadSource, BadSink, source-sort}
 use Rattle.image.specs.Reading.{Nowhere, Lowest}
 use Rattle.image.specs.Refusals.{byte, BadActorField, BadChannelField}
 use Rattle.image.specs.declared.counts.Counts.{Counts}
 use Rattle.image.proofs.Judging.{Same, lowest-same, low-left, low-right}
 use Rattle.image.proofs.Numbers.{between-add, bytes-at}
 
--- the kinds without a parameter are 0 to 3
-pub plain-low : (k : Kind) → Plain k → kind-number k ≤ 3
-plain-low Pass h = omega arith
-plain-low Count h = omega arith
-plain-low Gate h = omega arith
-plain-low Toggle h = omega arith
-plain-low Scale h = absurd h
-plain-low Sort h = absurd h
-plain-low Other h = absurd h
-
 -- only 0 has the bits of 0
-pub zero-bits : (z : ℤ) → SFits w32 z → ofZ w32 z ≡ 0 → z ≡ pos 0
+zero-bits : (z : ℤ) → SFits w32 z → ofZ w32 z ≡ 0 → z ≡ pos 0
 zero-bits z f e = sym (toZ-ofZ w32 z f) ∙ ap (toZ w32) e
 
 pub actor-fields : (bs : List ℕ) (b : ℕ) (z : ℤ) (d : ℕ) → SFits w32 z
@@ -81,7 +69,8 @@ length-source (Sensor s) = refl
 length-source (Outlet a o) = refl
 
 pub bytes-six : (bs : List ℕ) (b : ℕ) → b + 6 ≤ length bs
-    → byte bs b ∷ byte bs (b + 1) ∷ byte bs (b + 2) ∷ byte bs (b + 3) ∷ byte bs (b + 4) ∷ byte bs (b + 5) ∷ [] ≡ between b 6 bs
+    → byte bs b ∷ byte bs (b + 1) ∷ byte bs (b + 2) ∷ byte bs (b + 3) ∷ byte bs (b + 4) ∷ byte bs (b + 5) ∷ []
+    ≡ between b 6 bs
 bytes-six bs b h =
     let ps = b ∷ (b + 1) ∷ (b + 2) ∷ (b + 3) ∷ (b + 4) ∷ (b + 5) ∷ [] in
     bytes-at bs b ps (refl, (refl, (omega arith, (omega arith, (omega arith, (omega arith, tt)))))) h
@@ -109,10 +98,13 @@ module _ (bs : List ℕ) (b : ℕ) (n : Counts) (counted : n ≡ counts-at bs) w
 
   pub source-low : (j : ℕ) → j < 3 → Lowest (Src n) j → Lowest (BadChannelField bs b) j
   source-low j l low =
-      lowest-same _ _ j (fields (byte bs b) refl) (low-left (Src n) (Snk n (byte bs b)) j low (λ k x. omega (arith, late (byte bs b) k x)))
+      lowest-same _ _ j (fields (byte bs b) refl)
+      (low-left (Src n) (Snk n (byte bs b)) j low (λ k x. omega (arith, late (byte bs b) k x)))
 
-  pub sink-low : (from j : ℕ) → from ≡ byte bs b → Nowhere (Src n) → Lowest (Snk n from) j → Lowest (BadChannelField bs b) j
+  pub sink-low : (from j : ℕ) → from ≡ byte bs b → Nowhere (Src n) → Lowest (Snk n from) j
+      → Lowest (BadChannelField bs b) j
   sink-low from j e none low = lowest-same _ _ j (fields from e) (low-right (Src n) (Snk n from) j none low)
 
-  pub channel-clean : (from : ℕ) → from ≡ byte bs b → Nowhere (Src n) → Nowhere (Snk n from) → Nowhere (BadChannelField bs b)
+  pub channel-clean : (from : ℕ) → from ≡ byte bs b → Nowhere (Src n) → Nowhere (Snk n from)
+      → Nowhere (BadChannelField bs b)
   channel-clean from e none none′ k x = ⊎-elim (none k) (none′ k) (fields from e .back k x)

@@ -4,7 +4,7 @@ use mathlib.Core.List.{List, [], _∷_, _++_}
 use mathlib.Core.Logic.{inl, inr, ⊎-elim}
 use Prim.Native.Nat.{ℕ, _+_, _*_, _≤_, _<_}
 use native.Mathlib.Omega.{arith}
-use lib.ListN.{length, take}
+use lib.ListN.{length}
 use Rattle.std.specs.Joined.{joined}
 use Rattle.std.specs.shelf.Lists.{All}
 use Rattle.std.proofs.shelf.Elements.{all-getD}
@@ -13,11 +13,14 @@ use Rattle.std.proofs.shelf.Tests.{cases-eq, cases-lt}
 use Rattle.bounded.specs.Held.{held}
 use Rattle.line.specs.Lists.{In}
 use Rattle.line.specs.Plan.{Plan, nobody}
+use Rattle.line.specs.declared.parts.Actor.{Actor}
+use Rattle.line.specs.declared.parts.Channel.{Channel}
 use Rattle.line.specs.Rules.{Possible, longest}
 use Rattle.image.specs.Bytes.{between}
 use Rattle.image.specs.Drafts.{plan-of, counts-at}
 use Rattle.image.specs.Encoding.{image, mark, counts, size, sensor-bytes, actor-bytes, channel-bytes}
-use Rattle.image.specs.Reading.{Nowhere, Fronted, GotAll, Drafted}
+use Rattle.image.specs.Parsing.{Drafted}
+use Rattle.image.specs.Reading.{Nowhere, Fronted, GotAll}
 use Rattle.image.specs.Refusals.{byte, most, actors-at, channels-at, Unmarked, Uncounted, Unfit, BadActorField, BadChannelField}
 use Rattle.image.specs.Fields.{BadSensorField, Counted, Wired}
 use Rattle.image.specs.declared.draft.Draft.{Draft}
@@ -44,14 +47,17 @@ module _ (bs : List ℕ) (long : 9 ≤ length bs) where
 
   in-range : Nowhere (Uncounted bs) → (i : ℕ) → i < 4 → (1 ≤ byte bs (5 + i)) × (byte bs (5 + i) ≤ most i)
   in-range none i l = (
-    ⊎-elim (λ (z : byte bs (5 + i) < 1). absurd (none (5 + i) (i, l, refl, inl (omega arith)))) (λ h. h) (cases-lt (byte bs (5 + i)) 1),
+    ⊎-elim (λ (z : byte bs (5 + i) < 1). absurd (none (5 + i) (i, l, refl, inl (omega arith)))) (λ h. h)
+        (cases-lt (byte bs (5 + i)) 1),
     ⊎-elim (λ h. absurd (none (5 + i) (i, l, refl, inr h))) (λ h. h) (cases-lt (most i) (byte bs (5 + i))),
   )
 
   fits : Nowhere (Unfit bs) → length bs ≡ size (byte bs 5) (byte bs 6) (byte bs 8)
-  fits none = ⊎-elim (λ e. e) (λ n. absurd (none _ (refl, n))) (cases-eq (length bs) (size (byte bs 5) (byte bs 6) (byte bs 8)))
+  fits none = ⊎-elim (λ e. e) (λ n. absurd (none _ (refl, n)))
+      (cases-eq (length bs) (size (byte bs 5) (byte bs 6) (byte bs 8)))
 
-  pub fronted : (n : Counts) → n ≡ counts-at bs → Nowhere (Unmarked bs) → Nowhere (Uncounted bs) → Nowhere (Unfit bs) → Fronted bs n
+  pub fronted : (n : Counts) → n ≡ counts-at bs → Nowhere (Unmarked bs) → Nowhere (Uncounted bs) → Nowhere (Unfit bs)
+      → Fronted bs n
   fronted n e head count len = subst (Fronted bs) (sym e) record {
     marked = marked head;
     counted = refl;
@@ -79,13 +85,22 @@ whole bs p front numbers sensors actors channels =
     let head : between 0 9 bs ≡ mark ++ counts p = between-add 0 5 4 5 bs refl ∙ cc (front .marked) in
     all ∙ three ∙ ap (λ x. x ++ between (9 + s + a) c bs) (two ∙ ap (λ x. x ++ between (9 + s) a bs) one)
     ∙ rw (head, ← sensors, ← actors, ← channels) (ap (λ x. mark ++ (counts p ++ x))
-    (append-assoc (joined sensor-bytes (p .sensors)) (joined actor-bytes (p .actors)) (joined channel-bytes (p .channels))))
+    (append-assoc (joined sensor-bytes (p .sensors)) (joined actor-bytes (p .actors))
+    (joined channel-bytes (p .channels))))
+
+-- the records that the bytes name
+abbrev pub Sensors : List ℕ → List ℕ → Type 0
+Sensors bs xs = GotAll sensor-bytes 4 (λ l. l ≤ longest) BadSensorField bs 9 (byte bs 5) xs
+
+abbrev pub Actors : List ℕ → List Actor → Type 0
+Actors bs xs = GotAll actor-bytes 9 Possible BadActorField bs (actors-at bs) (byte bs 6) xs
+
+abbrev pub Channels : List ℕ → Counts → List Channel → Type 0
+Channels bs n xs = GotAll channel-bytes 6 (Wired n) BadChannelField bs (channels-at bs) (byte bs 8) xs
 
 -- what the parts of a reading give together
 pub drafted : (bs : List ℕ) (n : Counts) (d : Draft) → Fronted bs n → d .actuators ≡ n .actuators
-    → GotAll sensor-bytes 4 (λ l. l ≤ longest) BadSensorField bs 9 (byte bs 5) (held (d .sensors))
-    → GotAll actor-bytes 9 Possible BadActorField bs (actors-at bs) (byte bs 6) (held (d .actors))
-    → GotAll channel-bytes 6 (Wired n) BadChannelField bs (channels-at bs) (byte bs 8) (held (d .channels))
+    → Sensors bs (held (d .sensors)) → Actors bs (held (d .actors)) → Channels bs n (held (d .channels))
     → Drafted bs d
 drafted bs n d front e sensors actors channels =
     let p = plan-of d in

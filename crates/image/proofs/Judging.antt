@@ -2,7 +2,7 @@
 use mathlib.Core.Path.{_≡_, subst, _∙_}
 use mathlib.Core.List.{List}
 use mathlib.Core.Logic.{_⊎_, inl, inr, ⊎-elim}
-use Prim.Native.Nat.{ℕ, _<_, _≤_}
+use Prim.Native.Nat.{ℕ, _≤_}
 use native.Mathlib.Omega.{arith}
 use Rattle.std.specs.declared.result.Result.{Result}
 use Rattle.std.specs.declared.result.Result.the-variants.{Ok, Err}
@@ -30,7 +30,8 @@ pub record Same (P Q : ℕ → Type 0) : Type 0 where
 pub lowest-same : (P Q : ℕ → Type 0) (k : ℕ) → Same P Q → Lowest P k → Lowest Q k
 lowest-same P Q k s low = record { here = s .to k (low .here); none-below = λ j l q. low .none-below j l (s .back j q) }
 
-pub judged-same : {X : Type 0} (f : X → List ℕ) (fine : X → Type 0) (P Q : ℕ → Type 0) (bs cs : List ℕ) (w : ℕ) (r : Result X ℕ)
+pub judged-same : {X : Type 0} (f : X → List ℕ) (fine : X → Type 0) (P Q : ℕ → Type 0) (bs cs : List ℕ) (w : ℕ)
+    (r : Result X ℕ)
     → Same P Q → bs ≡ cs → Judged f fine P bs w r → Judged f fine Q cs w r
 judged-same f fine P Q bs cs w (Ok x) s e j =
     record { spells = j .spells ∙ e; in-range = j .in-range; clean = λ k q. j .clean k (s .back k q) }

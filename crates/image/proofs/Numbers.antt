@@ -46,7 +46,8 @@ pub length-between : (at n : ℕ) (bs : List ℕ) → at + n ≤ length bs → l
 length-between at n bs h = simp (length-take, length-drop) (omega arith)
 
 -- two parts, one behind the other
-pub between-add : (at m n end : ℕ) (bs : List ℕ) → at + m ≡ end → between at (m + n) bs ≡ between at m bs ++ between end n bs
+pub between-add : (at m n end : ℕ) (bs : List ℕ) → at + m ≡ end
+    → between at (m + n) bs ≡ between at m bs ++ between end n bs
 between-add at m n end bs e =
     take-add m n (drop at bs) ∙ ap (λ s. between at m bs ++ take n s) (drop-drop m at bs ∙ ap (λ k. drop k bs) e)
 
@@ -56,7 +57,8 @@ From a [] = Unit {0}
 From a (p ∷ ps) = (p ≡ a) × From (a + 1) ps
 
 -- bytes by their places
-pub bytes-at : (bs : List ℕ) (a : ℕ) (ps : List ℕ) → From a ps → a + length ps ≤ length bs → map (byte bs) ps ≡ between a (length ps) bs
+pub bytes-at : (bs : List ℕ) (a : ℕ) (ps : List ℕ) → From a ps → a + length ps ≤ length bs
+    → map (byte bs) ps ≡ between a (length ps) bs
 bytes-at bs a [] r h = refl
 bytes-at bs a (p ∷ ps) r h =
     let here = ap (byte bs) (r .0) in

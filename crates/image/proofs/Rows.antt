@@ -6,15 +6,14 @@ use Prim.Native.Nat.{ℕ, suc, _+_, _*_, _<_, _≤_}
 use native.Mathlib.Nat.{mul-suc, mul-zero}
 use native.Mathlib.Numerals.{add-one}
 use native.Mathlib.Omega.{arith}
-use lib.ListN.{length, take, drop, getD}
+use lib.ListN.{length, take, getD}
 use Rattle.std.specs.Joined.{joined}
-use Rattle.std.specs.shelf.Lists.{All}
 use Rattle.std.proofs.shelf.Bits.{mul-le}
 use Rattle.std.proofs.shelf.Elements.{all-push}
 use Rattle.std.proofs.shelf.Lists.{length-append, length-push, take-more, joined-more, length-take-le}
 use Rattle.std.proofs.shelf.Tests.{cases-order}
 use Rattle.image.specs.Bytes.{between, put}
-use Rattle.image.specs.Reading.{Nowhere, Lowest, Got, GotAll, BadRow}
+use Rattle.image.specs.Reading.{Lowest, Got, GotAll, BadRow}
 use Rattle.image.proofs.Numbers.{between-add}
 use Rattle.image.proofs.Puts.{put-next}
 
@@ -43,10 +42,12 @@ module _ {X : Type 0} (f : X → List ℕ) (w : ℕ) (even : (x : X) → length 
       put-next d ys y at (at + w * i) room far e e′
       ∙ ap (put d at) (joined-more f [] (take i xs) (getD xs i z) ∙ ap (joined f) (sym (take-more xs i z h)))
 
-module _ {X : Type 0} (f : X → List ℕ) (w : ℕ) (fine : X → Type 0) (bad : List ℕ → ℕ → ℕ → Type 0) (bs : List ℕ) (at : ℕ) where
+module _ {X : Type 0} (f : X → List ℕ) (w : ℕ) (fine : X → Type 0) (bad : List ℕ → ℕ → ℕ → Type 0) (bs : List ℕ)
+    (at : ℕ) where
   -- one record more is read
   pub got-more : (i : ℕ) (xs : List X) (x : X) → GotAll f w fine bad bs at i xs
-      → Got f fine (bad bs (at + w * i)) (between (at + w * i) w bs) x → GotAll f w fine bad bs at (i + 1) (xs ++ x ∷ [])
+      → Got f fine (bad bs (at + w * i)) (between (at + w * i) w bs) x
+      → GotAll f w fine bad bs at (i + 1) (xs ++ x ∷ [])
   got-more i xs x all one = record {
     many = length-push xs x ∙ ap (λ n. n + 1) (all .many);
     spell = sym (joined-more f [] xs x) ∙ ap (λ s. s ++ f x) (all .spell)
@@ -55,19 +56,23 @@ module _ {X : Type 0} (f : X → List ℕ) (w : ℕ) (fine : X → Type 0) (bad 
     in-range = all-push fine xs x (all .in-range) (one .in-range);
     clean = λ k b. ⊎-elim
         (λ (e : b .0 ≡ i). one .clean (b .1) (subst (λ (m : ℕ). bad bs (at + w * m) (b .1)) e (b .4)))
-        (λ o. all .clean k (b .0, b .1, ⊎-elim (λ (l : b .0 < i). l) (λ (l : i < b .0). absurd (omega (arith, b .2))) o, b .3, b .4))
+        (λ o.
+        let lt : b .0 < i = ⊎-elim (λ l. l) (λ (l : i < b .0). absurd (omega (arith, b .2))) o in
+        all .clean k (b .0, b .1, lt, b .3, b .4))
         (cases-order (b .0) i);
   }
 
   -- the next record has a bad field
-  pub low-more : (i n j : ℕ) (xs : List X) → GotAll f w fine bad bs at i xs → i < n → j < w → Lowest (bad bs (at + w * i)) j
+  pub low-more : (i n j : ℕ) (xs : List X) → GotAll f w fine bad bs at i xs → i < n → j < w
+      → Lowest (bad bs (at + w * i)) j
       → (at + w * i + j < at + w * n) × Lowest (BadRow bad w bs at n) (at + w * i + j)
   low-more i n j xs all lt within low = (
     omega (arith, before w i n lt),
     record {
       here = (i, j, lt, refl, low .here);
       none-below = λ k less b. ⊎-elim
-          (λ (e : b .0 ≡ i). low .none-below (b .1) (omega (arith, b .3, ap (λ m. w * m) e)) (subst (λ (m : ℕ). bad bs (at + w * m) (b .1)) e (b .4)))
+          (λ (e : b .0 ≡ i). low .none-below (b .1) (omega (arith, b .3, ap (λ m. w * m) e))
+          (subst (λ (m : ℕ). bad bs (at + w * m) (b .1)) e (b .4)))
           (⊎-elim
           (λ (l : b .0 < i). all .clean k (b .0, b .1, l, b .3, b .4))
           (λ (l : i < b .0). omega (arith, before w i (b .0) l, b .3)))

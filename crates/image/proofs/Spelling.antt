@@ -1,8 +1,8 @@
 -- Where the records of a plan stand in its image.
-use mathlib.Core.Path.{_≡_, refl, sym, ap, subst, _∙_}
+use mathlib.Core.Path.{_≡_, refl, sym, ap, _∙_}
 use mathlib.Core.List.{List, [], _∷_, _++_}
-use Prim.Native.Nat.{ℕ, zero, suc, _+_, _*_, _≤_, _<_}
-use native.Mathlib.Nat.{mul-suc, mul-zero, add-zero}
+use Prim.Native.Nat.{ℕ, zero, suc, _+_, _*_, _<_}
+use native.Mathlib.Nat.{mul-suc, mul-zero}
 use native.Mathlib.Omega.{arith}
 use lib.ListN.{length, take, drop, getD}
 use Rattle.std.specs.Joined.{joined}
@@ -40,7 +40,8 @@ module _ {X : Type 0} (f : X → List ℕ) (w : ℕ) (even : (x : X) → length 
   row-at (x ∷ xs) at zero d e l =
       let m : w * suc (length xs) ≡ w + w * length xs = omega (arith, mul-suc w (length xs)) in
       let z : at + w * 0 ≡ at = omega (arith, mul-zero w) in
-      parts (f x) (joined f xs) bs at w (w * length xs) (even x) (e ∙ ap (λ n. between at n bs) m) .0 ∙ ap (λ k. between k w bs) (sym z)
+      parts (f x) (joined f xs) bs at w (w * length xs) (even x) (e ∙ ap (λ n. between at n bs) m) .0
+      ∙ ap (λ k. between k w bs) (sym z)
   row-at (x ∷ xs) at (suc i) d e l =
       let m : w * suc (length xs) ≡ w + w * length xs = omega (arith, mul-suc w (length xs)) in
       let z : at + w + w * i ≡ at + w * suc i = omega (arith, mul-suc w i) in
@@ -48,10 +49,12 @@ module _ {X : Type 0} (f : X → List ℕ) (w : ℕ) (even : (x : X) → length 
       row-at xs (at + w) i d rest (omega arith) ∙ ap (λ k. between k w bs) z
 
   -- where each record is accepted, no field is bad
-  pub row-clean : (bad : List ℕ → ℕ → ℕ → Type 0) (xs : List X) (at : ℕ) (d : X) → joined f xs ≡ between at (w * length xs) bs
+  pub row-clean : (bad : List ℕ → ℕ → ℕ → Type 0) (xs : List X) (at : ℕ) (d : X)
+      → joined f xs ≡ between at (w * length xs) bs
       → ((i b : ℕ) → i < length xs → f (getD xs i d) ≡ between b w bs → Nowhere (bad bs b))
       → Nowhere (BadRow bad w bs at (length xs))
-  row-clean bad xs at d e accepted k b = accepted (b .0) (at + w * b .0) (b .2) (row-at xs at (b .0) d e (b .2)) (b .1) (b .4)
+  row-clean bad xs at d e accepted k b = accepted (b .0) (at + w * b .0) (b .2) (row-at xs at (b .0) d e (b .2))
+      (b .1) (b .4)
 
 middle : (front x rest : List ℕ) (at n : ℕ) → length front ≡ at → length x ≡ n → x ≡ between at n (front ++ (x ++ rest))
 middle front x rest at n l m = sym (ap (take n) (drop-at front (x ++ rest) at l) ∙ take-at x rest n m)
@@ -61,7 +64,8 @@ length-sink (Inlet a i) = refl
 length-sink (Actuator q) = refl
 
 pub length-channel : (x : Channel) → length (channel-bytes x) ≡ 6
-length-channel x = length-append (source-bytes (x .source)) (sink-bytes (x .sink)) ∙ omega (arith, length-source (x .source), length-sink (x .sink))
+length-channel x = length-append (source-bytes (x .source)) (sink-bytes (x .sink))
+    ∙ omega (arith, length-source (x .source), length-sink (x .sink))
 
 module _ (p : Plan) where
   abbrev js : List ℕ
@@ -89,7 +93,8 @@ module _ (p : Plan) where
   pub image-length : length (image p) ≡ size (length (p .sensors)) (length (p .actors)) (length (p .channels))
   image-length = omega (arith, length-append js (ja ++ jc), length-append ja jc, ls, la, lc)
 
-  pub asked : (n : Counts) {r : ℕ} → n ≡ counts-of p → r ≡ size (n .sensors) (n .actors) (n .channels) → r ≡ length (image p)
+  pub asked : (n : Counts) {r : ℕ} → n ≡ counts-of p → r ≡ size (n .sensors) (n .actors) (n .channels)
+      → r ≡ length (image p)
   asked n e f = f ∙ ap (λ m. size (m .sensors) (m .actors) (m .channels)) e ∙ sym image-length
 
   pub sensors-at : js ≡ between 9 (4 * length (p .sensors)) (image p)
@@ -101,7 +106,8 @@ module _ (p : Plan) where
       middle (front ++ js) ja jc (9 + 4 * length (p .sensors)) (9 * length (p .actors)) (omega (arith, ls)) la
       ∙ ap (between (9 + 4 * length (p .sensors)) (9 * length (p .actors))) (append-assoc front js (ja ++ jc))
 
-  pub channels-at : jc ≡ between (9 + 4 * length (p .sensors) + 9 * length (p .actors)) (6 * length (p .channels)) (image p)
+  pub channels-at : jc ≡ between (9 + 4 * length (p .sensors) + 9 * length (p .actors)) (6 * length (p .channels))
+      (image p)
   channels-at =
       let front = mark ++ counts p in
       let at = 9 + 4 * length (p .sensors) + 9 * length (p .actors) in
@@ -120,6 +126,7 @@ module _ (p : Plan) where
       let lm : 0 + length (front ++ js) ≡ m = omega (arith, ls) in
       let ln : 0 + length (front ++ (js ++ ja)) ≡ n = omega (arith, length-append js ja, ls, la) in
       let head = put-next d mark (counts p) 0 5 (omega arith) refl one two in
-      let more = put-next d (front ++ js) ja 0 m (omega arith) lm (put-next d front js 0 9 (omega arith) refl head three) four in
+      let more = put-next d (front ++ js) ja 0 m (omega arith) lm
+      (put-next d front js 0 9 (omega arith) refl head three) four in
       put-next d (front ++ (js ++ ja)) jc 0 n (omega arith) ln more five
       ∙ ap (λ x. put d 0 (front ++ x)) (append-assoc js ja jc)

@@ -10,7 +10,12 @@ use Rattle.image.specs.declared.counts.Counts.{Counts}
 
 -- the plan that a draft holds
 abbrev pub plan-of : Draft → Plan
-plan-of d = record { sensors = held (d .sensors); actors = held (d .actors); actuators = d .actuators; channels = held (d .channels) }
+plan-of d = record {
+  sensors = held (d .sensors);
+  actors = held (d .actors);
+  actuators = d .actuators;
+  channels = held (d .channels);
+}
 
 -- the counts that the bytes name
 abbrev pub counts-at : List ℕ → Counts
@@ -18,4 +23,9 @@ counts-at bs = record { sensors = byte bs 5; actors = byte bs 6; actuators = byt
 
 -- and those of a plan
 abbrev pub counts-of : Plan → Counts
-counts-of p = record { sensors = length (p .sensors); actors = length (p .actors); actuators = p .actuators; channels = length (p .channels) }
+counts-of p = record {
+  sensors = length (p .sensors);
+  actors = length (p .actors);
+  actuators = p .actuators;
+  channels = length (p .channels);
+}

@@ -6,3 +6,4 @@ pub mod Fields
 pub mod Emission
 pub mod Laws
 pub mod Reading
+pub mod Parsing

@@ -11,14 +11,11 @@ use Rattle.std.specs.declared.result.Result.{Result}
 use Rattle.fault.specs.declared.Fault.{Fault}
 use Rattle.bounded.specs.Held.{held}
 use Rattle.bounded.specs.declared.Bounded.{Bounded}
-use Rattle.fault.specs.Table.{entry}
-use Rattle.line.specs.Rules.{Sized, Ranged}
 use Rattle.image.specs.Bytes.{between}
-use Rattle.image.specs.Drafts.{plan-of, counts-at}
-use Rattle.image.specs.Encoding.{image, mark, size}
-use Rattle.image.specs.Refusals.{First, BadSensor, BadActor, BadChannel}
+use Rattle.image.specs.Drafts.{counts-at}
+use Rattle.image.specs.Encoding.{mark, size}
+use Rattle.image.specs.Refusals.{BadSensor, BadActor, BadChannel}
 use Rattle.image.specs.declared.counts.Counts.{Counts}
-use Rattle.image.specs.declared.draft.Draft.{Draft}
 
 -- each is a byte
 abbrev pub Octets : List ℕ → Type 0
@@ -38,17 +35,22 @@ abbrev pub Checked : {X : Type 0} → (ℕ → Fault) → (ℕ → Type 0) → R
 Checked refusal P r = Cases r (λ _. Nowhere P) (λ f. (k : ℕ) × (f ≡ refusal k) × Lowest P k)
 
 -- the record x has these bytes and is fine, and none of its fields is bad
-pub record Got {X : Type 0} (spelt : X → List ℕ) (fine : X → Type 0) (bad : ℕ → Type 0) (bytes : List ℕ) (x : X) : Type 0 where
+pub record Got
+    {X : Type 0} (spelt : X → List ℕ) (fine : X → Type 0) (bad : ℕ → Type 0) (bytes : List ℕ) (x : X)
+    : Type 0 where
   pub spells : spelt x ≡ bytes
   pub in-range : fine x
   pub clean : Nowhere bad
 
 -- the record of these bytes, or the offset of its lowest bad field, below w
-abbrev pub Judged : {X : Type 0} → (X → List ℕ) → (X → Type 0) → (ℕ → Type 0) → List ℕ → ℕ → Result X ℕ → Type 0
+abbrev pub Judged :
+    {X : Type 0} → (X → List ℕ) → (X → Type 0) → (ℕ → Type 0) → List ℕ → ℕ → Result X ℕ → Type 0
 Judged spelt fine bad bytes w r = Cases r (Got spelt fine bad bytes) (λ j. (j < w) × Lowest bad j)
 
 -- the same for the w bytes from the place at on
-abbrev pub ReadOne : {X : Type 0} → (X → List ℕ) → ℕ → (X → Type 0) → (List ℕ → ℕ → ℕ → Type 0) → List ℕ → ℕ → Result X ℕ → Type 0
+abbrev pub ReadOne :
+    {X : Type 0} → (X → List ℕ) → ℕ → (X → Type 0) → (List ℕ → ℕ → ℕ → Type 0)
+    → List ℕ → ℕ → Result X ℕ → Type 0
 ReadOne spelt w fine bad bs at r = Judged spelt fine (bad bs at) (between at w bs) w r
 
 -- of n records of w bytes from the place at on, a bad field is at k
@@ -56,14 +58,19 @@ abbrev pub BadRow : (List ℕ → ℕ → ℕ → Type 0) → ℕ → List ℕ �
 BadRow bad w bs at n k = (i : ℕ) × (j : ℕ) × (i < n) × (k ≡ at + w * i + j) × bad bs (at + w * i) j
 
 -- xs are the n records of w bytes from the place at on
-pub record GotAll {X : Type 0} (spelt : X → List ℕ) (w : ℕ) (fine : X → Type 0) (bad : List ℕ → ℕ → ℕ → Type 0) (bs : List ℕ) (at n : ℕ) (xs : List X) : Type 0 where
+pub record GotAll
+    {X : Type 0} (spelt : X → List ℕ) (w : ℕ) (fine : X → Type 0) (bad : List ℕ → ℕ → ℕ → Type 0)
+    (bs : List ℕ) (at n : ℕ) (xs : List X)
+    : Type 0 where
   pub many : length xs ≡ n
   pub spell : joined spelt xs ≡ between at (w * n) bs
   pub in-range : All fine xs
   pub clean : Nowhere (BadRow bad w bs at n)
 
 -- the n records, or the lowest place of a bad field, which lies among them
-abbrev pub ReadAll : {X : Type 0} {most : ℕ} → (X → List ℕ) → ℕ → (X → Type 0) → (List ℕ → ℕ → ℕ → Type 0) → List ℕ → ℕ → ℕ → Result (Bounded X most) ℕ → Type 0
+abbrev pub ReadAll :
+    {X : Type 0} {most : ℕ} → (X → List ℕ) → ℕ → (X → Type 0) → (List ℕ → ℕ → ℕ → Type 0)
+    → List ℕ → ℕ → ℕ → Result (Bounded X most) ℕ → Type 0
 ReadAll spelt w fine bad bs at n r =
     Cases r (λ b. GotAll spelt w fine bad bs at n (held b)) (λ k. (k < at + w * n) × Lowest (BadRow bad w bs at n) k)
 
@@ -80,13 +87,3 @@ pub record Fronted (bs : List ℕ) (n : Counts) : Type 0 where
 -- a field at k is out of range
 abbrev pub BadField : List ℕ → ℕ → Type 0
 BadField bs k = BadSensor bs k ⊎ (BadActor bs k ⊎ BadChannel bs k)
-
--- the bytes are the image of the draft, whose fields are all in range
-pub record Drafted (bs : List ℕ) (d : Draft) : Type 0 where
-  pub spelt : bs ≡ image (plan-of d)
-  pub sized : Sized (plan-of d)
-  pub ranged : Ranged (plan-of d)
-
--- the draft, or the first refusal, which is one of bytes or fields
-abbrev pub Parsed : List ℕ → Result Draft Fault → Type 0
-Parsed bs r = Cases r (Drafted bs) (λ f. First bs f × (entry f .number ≤ 4))

@@ -3,8 +3,7 @@ ghost use mathlib.Core.Path.{_≡_};
 ghost use Prim.Native.Nat.{_≤_};
 ghost use Rattle.line.specs.Rules.{Possible};
 ghost use Rattle.image.specs.Encoding.{actor-bytes, kind-number};
-ghost use Rattle.image.specs.Fields.{BadActorOf, fields-bytes};
-ghost use Rattle.image.specs.Reading.{Judged};
+ghost use Rattle.image.specs.Fields.{ActorOf};
 ghost use Rattle.image.specs.Refusals.{BadActorField};
 use crate::counts::ACTOR_WIDTH;
 use crate::counts::Counts;
@@ -47,7 +46,7 @@ fn number_of(kind: Kind) -> u8
 
 // The kinds 0 to 3 have no parameter: theirs is 0.
 fn actor_of(number: u8, parameter: i32, delay: u32) -> Result<Actor, usize>
-    ensures { λ r. ⌜ Judged actor-bytes Possible (BadActorOf number parameter delay) (fields-bytes number parameter delay) 9 r ⌝ }
+    ensures { λ r. ⌜ ActorOf number parameter delay r ⌝ }
 {
     match (number, parameter, delay) {
         (7.., _, _) => Err(0),

@@ -1,9 +1,7 @@
 // Channels as records of six bytes: sort, number and outlet of the source, then sort, number and inlet of the sink.
 ghost use mathlib.Core.Path.{_≡_};
-ghost use mathlib.Core.List.{[], _∷_};
 ghost use Rattle.image.specs.Encoding.{source-bytes, sink-bytes, channel-bytes};
-ghost use Rattle.image.specs.Fields.{InPlans, BadSource, BadSink, Starts, Stops, Wired, source-sort};
-ghost use Rattle.image.specs.Reading.{Judged};
+ghost use Rattle.image.specs.Fields.{SourceOf, SinkOf, Wired};
 ghost use Rattle.image.specs.Refusals.{BadChannelField};
 use crate::counts::CHANNEL_WIDTH;
 use crate::counts::Counts;
@@ -14,7 +12,7 @@ use line::parts::Sink;
 use line::parts::Source;
 
 fn source_of(sort: u8, number: u8, outlet: u8, counts: Counts) -> Result<Source, usize>
-    ensures { λ r. ⌜ Judged source-bytes (Starts counts) (BadSource counts sort number outlet) (sort ∷ number ∷ outlet ∷ []) 3 r ⌝ }
+    ensures { λ r. ⌜ SourceOf counts sort number outlet r ⌝ }
 {
     match (sort, number, outlet) {
         (0, n, _) if n >= counts.sensors => Err(1),
@@ -29,7 +27,7 @@ fn source_of(sort: u8, number: u8, outlet: u8, counts: Counts) -> Result<Source,
 
 // A sensor feeds no actuator.
 fn sink_of(source: Source, sort: u8, number: u8, inlet: u8, counts: Counts) -> Result<Sink, usize>
-    ensures { λ r. ⌜ Judged sink-bytes (Stops counts source) (BadSink counts (source-sort source) sort number inlet) (sort ∷ number ∷ inlet ∷ []) 6 r ⌝ }
+    ensures { λ r. ⌜ SinkOf counts source sort number inlet r ⌝ }
 {
     match (source, sort, number, inlet) {
         (_, 0, n, _) if n >= counts.actors => Err(4),

@@ -4,7 +4,7 @@ ghost use Prim.Native.Nat.{_≤_};
 ghost use lib.ListN.{length};
 ghost use Rattle.image.specs.Bytes.{put};
 ghost use Rattle.image.specs.Drafts.{plan-of, counts-of};
-ghost use Rattle.image.specs.Emission.{answer, written};
+ghost use Rattle.image.specs.Emission.{Fitted, answer, written};
 ghost use Rattle.image.specs.Encoding.{image};
 use crate::actors::ActorRow;
 use crate::channels::ChannelRow;
@@ -29,6 +29,16 @@ fn counts_of(draft: &Draft) -> Counts
     }
 }
 
+// The length asked for, where there is room for it.
+fn fit(size: usize, room: usize) -> Result<usize, Fault>
+    ensures { λ r. ⌜ Fitted size room r ⌝ }
+{
+    if room < size {
+        return Err(Fault::Run(RunCause::Full, size as u64));
+    }
+    Ok(size)
+}
+
 fn write_image(draft: &Draft, counts: Counts, buffer: &mut [u8])
     requires counted { ⌜ counts ≡ counts-of (plan-of (now draft)) ⌝ }
     requires room { ⌜ length (image (plan-of (now draft))) ≤ length (now buffer) ⌝ }
@@ -47,10 +57,7 @@ pub fn emit(draft: &Draft, buffer: &mut [u8]) -> Result<usize, Fault>
     ensures after { λ _. ⌜ now (buffer .exit) ≡ written (plan-of (now (draft .entry))) (now (buffer .entry)) ⌝ }
 {
     let counts = counts_of(draft);
-    let size = counts.size();
-    if buffer.len() < size {
-        return Err(Fault::Run(RunCause::Full, size as u64));
-    }
+    let size = fit(counts.size(), buffer.len())?;
     write_image(draft, counts, buffer);
     Ok(size)
 }

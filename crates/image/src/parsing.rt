@@ -1,7 +1,7 @@
 // From bytes to records: head, counts and length, then the fields in the order of their places.
-ghost use mathlib.Core.Path.{_≡_};
 ghost use Rattle.std.specs.Results.{Cases};
-ghost use Rattle.image.specs.Reading.{BadField, Drafted, Fronted, Lowest, Parsed};
+ghost use Rattle.image.specs.Parsing.{Drafted, Parsed};
+ghost use Rattle.image.specs.Reading.{BadField, Fronted, Lowest};
 use crate::actors::ActorRow;
 use crate::channels::ChannelRow;
 use crate::counts::Counts;

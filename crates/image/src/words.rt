@@ -3,7 +3,7 @@ ghost use mathlib.Core.Path.{_≡_};
 ghost use Prim.Native.Nat.{_+_, _≤_};
 ghost use lib.ListN.{length};
 ghost use mir.Syntax.{w32};
-ghost use mir.Val.{toZ, ofZ};
+ghost use mir.Val.{ofZ};
 ghost use Rattle.image.specs.Bytes.{le, val, put, between};
 ghost use Rattle.image.specs.Reading.{Octets};
 

@@ -1,4 +1,4 @@
-use mathlib.Core.Path.{_≡_, ap, _∙_}
+use mathlib.Core.Path.{ap, _∙_}
 use mathlib.Core.List.{_∷_, []}
 use Prim.Native.Nat.{_+_, _*_}
 use native.Mathlib.Omega.{arith}
@@ -15,12 +15,25 @@ write-all-requires c κs = omega (arith, image-length (plan-of (c .args .draft .
 
 pub write-all-requires-2 : need.write-all-requires-2
 write-all-requires-2 c κs =
-    omega (arith, image-length (plan-of (c .args .draft .now)), ap length (c .as-slice-2 .ensures), ap (λ n. n .sensors) (c .pre .counted))
+    omega (
+      arith,
+      image-length (plan-of (c .args .draft .now)),
+      ap length (c .as-slice-2 .ensures),
+      ap
+          (λ n. n .sensors) (c .pre .counted),
+    )
 
 pub write-all-requires-3 : need.write-all-requires-3
 write-all-requires-3 c κs =
     let same = c .pre .counted in
-    omega (arith, image-length (plan-of (c .args .draft .now)), ap length (c .as-slice-3 .ensures), ap (λ n. n .sensors) same, ap (λ n. n .actors) same)
+    omega (
+      arith,
+      image-length (plan-of (c .args .draft .now)),
+      ap length (c .as-slice-3 .ensures),
+      ap
+          (λ n. n .sensors) same,
+      ap (λ n. n .actors) same,
+    )
 
 pub returns : need.returns
 returns c =
@@ -32,6 +45,9 @@ returns c =
     (c .put-bytes .ensures)
     (c .put-bytes-2 .ensures ∙ ap (put (c .put-bytes .last .bytes) 5)
     (c .spell .ensures ∙ ap (λ n. n .sensors ∷ n .actors ∷ n .actuators ∷ n .channels ∷ []) same))
-    (c .write-all .ensures ∙ ap (λ xs. put (c .put-bytes-2 .last .bytes) 9 (joined sensor-bytes xs)) (c .as-slice .ensures))
-    (c .write-all-2 .ensures ∙ ap (λ xs. put (c .write-all .last .bytes) (c .actors-at .result) (joined actor-bytes xs)) (c .as-slice-2 .ensures))
-    (c .write-all-3 .ensures ∙ ap (λ xs. put (c .write-all-2 .last .bytes) (c .channels-at .result) (joined channel-bytes xs)) (c .as-slice-3 .ensures))
+    (c .write-all .ensures ∙ ap (λ xs. put (c .put-bytes-2 .last .bytes) 9 (joined sensor-bytes xs))
+    (c .as-slice .ensures))
+    (c .write-all-2 .ensures ∙ ap (λ xs. put (c .write-all .last .bytes) (c .actors-at .result)
+    (joined actor-bytes xs)) (c .as-slice-2 .ensures))
+    (c .write-all-3 .ensures ∙ ap (λ xs. put (c .write-all-2 .last .bytes) (c .channels-at .result)
+    (joined channel-bytes xs)) (c .as-slice-3 .ensures))

@@ -1,4 +1,3 @@
-use mathlib.Core.Path.{_≡_}
 use Prim.Native.Nat.{ℕ, _+_, _<_, _≤_}
 use Rattle.image.specs.Refusals.{byte, most}
 use Rattle.image.proofs.head.check_counts.Given as given

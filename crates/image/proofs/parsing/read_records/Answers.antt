@@ -6,8 +6,8 @@ use Rattle.line.specs.Rules.{Possible, longest}
 use Rattle.image.specs.Encoding.{sensor-bytes, actor-bytes, channel-bytes}
 use Rattle.image.specs.Fields.{BadSensorField, Wired}
 use Rattle.image.specs.Reading.{Lowest, BadRow, GotAll}
-use Rattle.image.specs.Refusals.{byte, actors-at, BadActorField, BadChannelField}
-use Rattle.image.proofs.Front.{drafted}
+use Rattle.image.specs.Refusals.{BadActorField, BadChannelField}
+use Rattle.image.proofs.Front.{Sensors, Actors, drafted}
 use Rattle.image.proofs.Judging.{moved}
 use Rattle.image.proofs.Order.{sensor-low, actor-low, channel-low}
 use Rattle.image.proofs.parsing.read_records.Needs as need
@@ -15,14 +15,15 @@ use Rattle.image.proofs.parsing.read_records.Needs.{In-Continue-sensors, In-Co
 
 -- the records that were read, at the places that the bytes name
 sensors-read : (c : In-Continue-sensors)
-    → GotAll sensor-bytes 4 (λ l. l ≤ longest) BadSensorField (c .args .bytes .now) 9 (byte (c .args .bytes .now) 5) (held (c .in-Continue-sensors .sensors))
+    → Sensors (c .args .bytes .now) (held (c .in-Continue-sensors .sensors))
 sensors-read c =
     let bs = c .args .bytes .now in
-    moved (λ at n. GotAll sensor-bytes 4 (λ l. l ≤ longest) BadSensorField bs at n (held (c .in-Continue-sensors .sensors)))
+    moved (λ at n. GotAll sensor-bytes 4 (λ l. l ≤ longest) BadSensorField bs at n
+    (held (c .in-Continue-sensors .sensors)))
     refl (c .from .ensures ∙ ap (λ n. n .sensors) (c .pre .counted)) (c .in-Continue-sensors .ensures tt)
 
 actors-read : (c : In-Continue-actors)
-    → GotAll actor-bytes 9 Possible BadActorField (c .args .bytes .now) (actors-at (c .args .bytes .now)) (byte (c .args .bytes .now) 6) (held (c .in-Continue-actors .actors))
+    → Actors (c .args .bytes .now) (held (c .in-Continue-actors .actors))
 actors-read c =
     let bs = c .args .bytes .now in
     moved (λ at n. GotAll actor-bytes 9 Possible BadActorField bs at n (held (c .in-Continue-actors .actors)))
@@ -47,7 +48,8 @@ returns-in-Break-actors c =
     let low = moved (λ at n. (k < at + 9 * n) × Lowest (BadRow BadActorField 9 bs at n) k)
     (c .actors-at .ensures ∙ ap (λ n. 9 + 4 * n .sensors) (c .pre .counted))
     (c .from-2 .ensures ∙ ap (λ n. n .actors) (c .pre .counted)) (c .in-Break-actors .ensures tt) in
-    rw (p .1, p .2) (actor-low bs k (low .0) (sensors-read (need.at·returns-in-Break-actors c .In-Continue-sensors) .clean) (low .1))
+    rw (p .1, p .2) (actor-low bs k (low .0)
+    (sensors-read (need.at·returns-in-Break-actors c .In-Continue-sensors) .clean) (low .1))
 
 pub returns-in-Break-channels : need.returns-in-Break-channels
 returns-in-Break-channels c =
@@ -65,7 +67,9 @@ pub returns : need.returns
 returns c =
     let bs = c .args .bytes .now in
     let n = c .args .counts in
-    let channels = moved (λ at m. GotAll channel-bytes 6 (Wired n) BadChannelField bs at m (held (c .in-Continue-channels .channels)))
+    let channels = moved (λ at m. GotAll channel-bytes 6 (Wired n) BadChannelField bs at m
+    (held (c .in-Continue-channels .channels)))
     (c .channels-at .ensures ∙ ap (λ n. 9 + 4 * n .sensors + 9 * n .actors) (c .pre .counted))
     (c .from-3 .ensures ∙ ap (λ n. n .channels) (c .pre .counted)) (c .in-Continue-channels .ensures tt) in
-    drafted bs n _ (c .pre) refl (sensors-read (need.at·returns c .In-Continue-sensors)) (actors-read (need.at·returns c .In-Continue-actors)) channels
+    drafted bs n _ (c .pre) refl (sensors-read (need.at·returns c .In-Continue-sensors))
+    (actors-read (need.at·returns c .In-Continue-actors)) channels

@@ -1,5 +1,4 @@
-use mathlib.Core.Path.{_≡_, sym, ap, subst, _∙_}
-use mathlib.Core.List.{_∷_, [], _++_}
+use mathlib.Core.Path.{_≡_, sym, subst, _∙_}
 use Prim.Native.Nat.{ℕ, _+_, _*_, _≤_, _<_}
 use native.Mathlib.Omega.{arith}
 use borrow.Author.Needs.{needs}
@@ -53,7 +52,8 @@ loop-i-again g c =
     let got = c .loop-i .inv .1 in
     let fits : length (held (c .loop-i .rows)) < g .N = omega (arith, got .many, c .pre .few) in
     let grown = c .push .ensures .after ∙ cond-true _ _ _ (c .push .ensures .answer ∙ lt-ltb _ _ fits) in
-    let one = subst (λ (b : ℕ). Got (r .spelt) (r .fine (c .args .counts)) (r .bad bs b) (between b (r .wide) bs) (c .in-Ok .row))
+    let one = subst (λ (b : ℕ). Got (r .spelt) (r .fine (c .args .counts)) (r .bad bs b) (between b (r .wide) bs)
+    (c .in-Ok .row))
     (c .loop-i .inv .0) (c .in-Ok .ensures tt) in (
       omega (arith, c .loop-i .inv .0, c .width-from .ensures, one-more (r .wide) i),
       subst (GotAll (r .spelt) (r .wide) (r .fine (c .args .counts)) (r .bad) bs at (i + 1)) (sym grown)
@@ -64,5 +64,6 @@ pub returns : need.returns
 returns g c =
     let r = g .R·Row in
     let all : c .loop-i .i ≡ c .args .many = omega arith in
-    subst (λ (n : ℕ). GotAll (r .spelt) (r .wide) (r .fine (c .args .counts)) (r .bad) (c .args .bytes .now) (c .args .at) n (held (c .loop-i .rows)))
+    subst (λ (n : ℕ). GotAll (r .spelt) (r .wide) (r .fine (c .args .counts)) (r .bad) (c .args .bytes .now)
+    (c .args .at) n (held (c .loop-i .rows)))
     all (c .loop-i .inv .1)

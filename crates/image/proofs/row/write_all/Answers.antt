@@ -1,4 +1,4 @@
-use mathlib.Core.Path.{_≡_, sym, ap, _∙_}
+use mathlib.Core.Path.{sym, ap, _∙_}
 use Prim.Native.Nat.{_+_, _*_, _≤_}
 use native.Mathlib.Nat.{mul-zero}
 use native.Mathlib.Omega.{arith}
@@ -16,7 +16,12 @@ loop-i-holds g c = (omega (arith, mul-zero (g .R·Row .wide)), sym (put-none (c 
 
 pub write-requires : need.write-requires
 write-requires g c κs =
-    omega (arith, c .loop-i .inv .0, before (g .R·Row .wide) (c .loop-i .i) (length (c .args .rows .now)) (c .loop-i-test .taken))
+    omega (
+      arith,
+      c .loop-i .inv .0,
+      before (g .R·Row .wide) (c .loop-i .i) (length (c .args .rows .now))
+          (c .loop-i-test .taken),
+    )
 
 pub add-to : need.add-to
 add-to g c =
@@ -35,7 +40,8 @@ loop-i-again g c =
     let wrote = c .write .ensures ∙ ap (λ m. put was m (r .spelt (x .result))) (c .loop-i .inv .0)
     ∙ ap (λ y. put was (at + r .wide * i) (r .spelt y)) (x .is) in (
       omega (arith, c .loop-i .inv .0, c .width-to .ensures, one-more (r .wide) i),
-      write-more (r .spelt) (r .wide) (g .R·Row·met .even) (c .args .bytes .now) at i (c .args .rows .now) _ _ (x .result)
+      write-more (r .spelt) (r .wide) (g .R·Row·met .even) (c .args .bytes .now) at i (c .args .rows .now) _ _
+          (x .result)
           (c .loop-i-test .taken) (omega arith) (c .loop-i .inv .1) wrote,
     )
 

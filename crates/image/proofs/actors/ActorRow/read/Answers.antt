@@ -1,9 +1,8 @@
-use mathlib.Core.Path.{_≡_, sym, ap, subst, _∙_}
+use mathlib.Core.Path.{subst}
 use lib.IntN.{ℤ}
-use lib.ListN.{getD}
 use borrow.Author.Needs.{needs}
 use mir.Syntax.{w32}
-use mir.Val.{ofZ, SFits}
+use mir.Val.{SFits}
 use Rattle.std.proofs.shelf.Signed.{toZ-ofZ}
 use Rattle.line.specs.Rules.{Possible}
 use Rattle.image.specs.Encoding.{actor-bytes}
@@ -21,7 +20,8 @@ returns c =
     let z = c .get-i32 .result in
     let d = c .get-u32 .result in
     let fits : SFits w32 z = search needs in
-    let judged = subst (λ (y : ℤ). Judged actor-bytes Possible (BadActorOf (byte bs b) y d) (fields-bytes (byte bs b) y d) 9 (c .actor-of .result))
+    let judged = subst (λ (y : ℤ). Judged actor-bytes Possible (BadActorOf (byte bs b) y d)
+    (fields-bytes (byte bs b) y d) 9 (c .actor-of .result))
     (toZ-ofZ w32 z fits) (c .actor-of .ensures) in
     judged-same actor-bytes Possible _ _ _ _ 9 (c .actor-of .result)
     (actor-fields bs b z d fits (c .get-i32 .ensures .value) (c .get-u32 .ensures .value))

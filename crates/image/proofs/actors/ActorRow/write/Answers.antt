@@ -1,5 +1,5 @@
-use mathlib.Core.Path.{_≡_, refl, ap, _∙_}
-use mathlib.Core.List.{[], _∷_, _++_}
+use mathlib.Core.Path.{refl, ap, _∙_}
+use mathlib.Core.List.{[], _∷_}
 use Prim.Native.Nat.{_+_}
 use native.Mathlib.Omega.{arith}
 use borrow.Author.Needs.{needs}
@@ -21,6 +21,7 @@ returns c =
     let p = le 4 (ofZ w32 (x .parameter)) in
     let k = kind-number (x .kind) in
     let one = ap (set d at) (c .number-of .ensures) ∙ put-one d at k (omega arith) in
-    let two = c .put-i32 .ensures ∙ ap (λ z. put (set d at (c .number-of .result)) (at + 1) (le 4 (ofZ w32 z))) (toZ-ofZ w32 (x .parameter) fits) in
+    let two = c .put-i32 .ensures ∙ ap (λ z. put (set d at (c .number-of .result)) (at + 1) (le 4 (ofZ w32 z)))
+    (toZ-ofZ w32 (x .parameter) fits) in
     put-next d (k ∷ p) (le 4 (x .delay)) at (at + 5) (omega arith) refl
     (put-next d (k ∷ []) p at (at + 1) (omega arith) refl one two) (c .put-u32 .ensures)

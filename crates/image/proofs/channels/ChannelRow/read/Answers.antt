@@ -1,4 +1,3 @@
-use mathlib.Core.Path.{sym}
 use Rattle.std.proofs.shelf.Results.{err-from-errBy}
 use native.Mathlib.Omega.{arith}
 use Rattle.image.proofs.Fields.{sort-of, six-at, source-low, sink-low, channel-clean}
@@ -8,7 +7,11 @@ pub returns-in-Break-source : need.returns-in-Break-source
 returns-in-Break-source c =
     let p = err-from-errBy (c .from-residual .result) (c .from-residual .ensures .1) in
     let low = c .in-Break-source .ensures tt in
-    rw (p .1, p .2) (omega (arith, low .0), source-low (c .args .bytes .now) (c .args .at) (c .args .counts) (c .pre .counted) _ (low .0) (low .1))
+    rw (p .1, p .2) (
+      omega (arith, low .0),
+      source-low (c .args .bytes .now) (c .args .at) (c .args .counts)
+          (c .pre .counted) _ (low .0) (low .1),
+    )
 
 pub returns-in-Break-sink : need.returns-in-Break-sink
 returns-in-Break-sink c =

@@ -1,10 +1,6 @@
-use mathlib.Core.Path.{_≡_, ap, _∙_}
-use mathlib.Core.List.{List}
-use Prim.Native.Nat.{ℕ, _+_}
+use mathlib.Core.Path.{ap, _∙_}
+use Prim.Native.Nat.{_+_}
 use native.Mathlib.Omega.{arith}
-use lib.ListN.{length}
-use Rattle.line.specs.declared.parts.Source.{Source}
-use Rattle.line.specs.declared.parts.Source.the-variants.{Sensor, Outlet}
 use Rattle.image.specs.Bytes.{put}
 use Rattle.image.specs.Encoding.{source-bytes, sink-bytes}
 use Rattle.image.proofs.Fields.{length-source}
