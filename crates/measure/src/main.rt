@@ -35,14 +35,23 @@ fn measure(rt: &LibcRuntime, name: &str, reads: u32, writes: u32) -> Result<(), 
             return Ok(());
         }
     }
-    let mut size = 0;
-    for _ in 0..writes {
-        let mut buffer = [0; 937];
-        size = project.write(&mut buffer).unwrap_or(0);
+    let buffer = write_often(&project, writes);
+    // Every byte is looked at, so that no write can be left out.
+    let mut sum = 0u64;
+    for b in buffer {
+        sum = sum.wrapping_add(u64::from(b));
     }
     println!(
         rt,
-        "{name}: read {reads} times, written {writes} times, {size} bytes"
+        "{name}: read {reads} times, written {writes} times, bytes add up to {sum}"
     )?;
     Ok(())
+}
+
+fn write_often(project: &Project, writes: u32) -> [u8; 937] {
+    let mut buffer = [0; 937];
+    for _ in 0..writes {
+        let _ = project.write(&mut buffer);
+    }
+    buffer
 }

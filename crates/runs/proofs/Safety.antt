@@ -115,7 +115,7 @@ below-keep {A} f n (x ∷ xs) h = go (eqb (f x) n) refl (below-keep f n xs (h .1
     go true e ih = let w = all e xs (h .0) in omega arith
     go false e ih = omega arith
 
-few : {A : Type 0} (f : A → ℕ) (n : ℕ) (xs : List A) → Pairs (λ (x y : A). f x ≡ f y → ⊥) xs →
+pub few : {A : Type 0} (f : A → ℕ) (n : ℕ) (xs : List A) → Pairs (λ (x y : A). f x ≡ f y → ⊥) xs →
     Each (λ (x : A). f x < n) xs → length xs ≤ n
 few f zero [] h k = omega arith
 few f zero (x ∷ xs) h k = absurd (let w = k x (inl refl) in omega arith)

@@ -1,4 +1,5 @@
 // The runtime's calls by definition, and the laws that hold over every run of them.
+pub mod ranks;
 pub mod records;
 
 ghost use Rattle.runs.specs.Laws.{Events-fix-records, Events-fix-beginnings, Always-orderly};

@@ -1,0 +1,4 @@
+pub mod Meant
+pub mod Model
+pub mod Answers
+pub mod Keys

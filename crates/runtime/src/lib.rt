@@ -1,0 +1,21 @@
+// A line at work: open and closed runtimes over a bank.
+mod advance;
+mod arrive;
+mod closing;
+mod deadline;
+mod deliver;
+mod early;
+mod events;
+mod limits;
+mod opening;
+mod outlets;
+mod pick;
+mod reporting;
+mod room;
+pub mod rows;
+pub mod runtime;
+mod sending;
+mod start;
+mod start_fault;
+pub mod state;
+mod taken;
