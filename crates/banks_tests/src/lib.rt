@@ -1,4 +1,6 @@
 // Tests of the banks, in a crate of their own.
+#![tactic(auto)]
+
 #[cfg(test)]
 mod banks;
 #[cfg(test)]

@@ -1,5 +1,7 @@
 // A list of at most N records in a fixed array, without a heap.
-ghost use Rattle.std.specs.Prelude.{◌≡◌, ◌≤◌, length};
+#![tactic(auto)]
+
+ghost use Rattle.std.specs.Prelude.{◌≡◌, ◌≤◌, length, ⊤};
 
 mod edits;
 mod methods;
@@ -8,6 +10,8 @@ mod select;
 mod tests;
 
 pub use select::Select;
+
+use std::alloc::AllocError;
 
 // There was no room for one more record.
 #[derive(Clone, Copy, PartialEq, Eq, Debug)]
@@ -23,10 +27,21 @@ pub enum InsertError {
 }
 
 // The first `len` records of an array; the others are never read.
-#[derive(Clone, Copy)]
 pub struct Bounded<T: Copy, const N: usize> {
     items: [T; N],
     len: usize,
     ghost fits: { len ≤ N },
     ghost whole: { length items ≡ N },
 }
+
+impl<T: Copy, const N: usize> Clone for Bounded<T, N> {
+    ghost is_clone = { λ x y. y ≡ x };
+
+    ghost is_infallible = { λ _. ⊤ };
+
+    fn clone(&self) -> Result<Bounded<T, N>, AllocError> {
+        Ok(*self)
+    }
+}
+
+impl<T: Copy, const N: usize> Copy for Bounded<T, N> {}

@@ -1,4 +1,6 @@
 // The download button: reports on one or two project images, and says whether there is anything to download.
+#![tactic(auto)]
+
 use line::parts::{Sink, Source};
 use project::project::Project;
 use std::{env, fs};

@@ -1,4 +1,6 @@
 // What a draft and the tables of its times answer by number.
+#![tactic(auto)]
+
 pub mod outlets;
 pub mod times;
 pub mod wiring;

@@ -1,4 +1,6 @@
 // A bank of one's own, from the rule to the proof: actors that add up what comes in.
+#![tactic(auto)]
+
 ghost use Rattle.std.specs.Prelude.{◌≡◌, replicate, pos};
 ghost use Rattle.example_bank.specs.Totals.{leaves, row_of, summed, totals, zero_total};
 

@@ -1,4 +1,6 @@
 // Every refusal of the product, by layer, cause and place.
+#![tactic(auto)]
+
 ghost use Rattle.std.specs.Prelude.{◌≡◌, Some};
 ghost use Rattle.fault.specs.Table.{entry, place_of, layer_name, notice, of_bytes, of_records, of_graph, of_run};
 

@@ -1,4 +1,6 @@
 // The rules between the records of a draft, and the times that its paths give.
+#![tactic(auto)]
+
 mod checks;
 mod flaws;
 mod search;

@@ -1,4 +1,6 @@
 // Projects as bytes, both ways.
+#![tactic(auto)]
+
 ghost use Rattle.image.specs.Laws.{Faithful};
 
 mod actors;

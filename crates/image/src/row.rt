@@ -38,8 +38,8 @@ pub(crate) trait Row: Copy {
 }
 
 pub(crate) fn write_all<R: Row>(bytes: &mut [u8], at: usize, rows: &[R])
-    requires { at + wide * length rows.now ≤ length bytes.old }
-    ensures { bytes.new ≡ put bytes.old at (flat_map spelt rows.now) }
+    requires { at + R.wide * length rows.now ≤ length bytes.old }
+    ensures { bytes.new ≡ put bytes.old at (flat_map R.spelt rows.now) }
 {
     let mut to = at;
     for i in 0..rows.len() {
@@ -57,9 +57,9 @@ pub(crate) fn read_all<R: Row, const N: usize>(
     filler: R,
 ) -> Result<Bounded<R, N>, usize>
     requires few { many ≤ N }
-    requires room { at + wide * many ≤ length bytes.now }
+    requires room { at + R.wide * many ≤ length bytes.now }
     requires counted { counts ≡ counts_at bytes.now }
-    ensures { ReadAll spelt wide (fine counts) bad bytes.now at many result }
+    ensures { ReadAll R.spelt R.wide (R.fine counts) R.bad bytes.now at many result }
 {
     let mut rows = Bounded::new(filler);
     let mut from = at;

@@ -1,4 +1,6 @@
 // Images on examples: a sample, and what becomes of it when a byte is damaged.
+#![tactic(auto)]
+
 #[cfg(test)]
 mod tests {
     use fault::{Fault, RunCause};

@@ -1,4 +1,6 @@
 // What a journal of calls tells, and whether two journals tell the same.
+#![tactic(auto)]
+
 mod entry;
 mod record;
 #[cfg(test)]

@@ -1,3 +1,5 @@
 // The words of a packaging line: what its actors do, how they are wired, and what its rules say.
+#![tactic(auto)]
+
 mod names;
 pub mod parts;

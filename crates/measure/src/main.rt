@@ -1,4 +1,6 @@
 // Reads an image and writes the project back, each as often as asked: for counting instructions.
+#![tactic(auto)]
+
 use project::project::Project;
 use std::{env, fs};
 

@@ -1,4 +1,6 @@
 // Works a line as often as asked, for counting instructions: days of one event each, or picks on a line full of events.
+#![tactic(auto)]
+
 use project::project::Project;
 use runs::records::Firing;
 use runtime::runtime::OpenRuntime;

@@ -1,4 +1,6 @@
 // One closure over all paths of a graph, for every kind of weight with two lawful operations.
+#![tactic(auto)]
+
 ghost use Rattle.std.specs.Prelude.{◌≡◌, ◌+◌, ◌*◌, ◌^◌, ◌<◌, true, false, ◌&&◌, ◌||◌, length, is_ok, Decides, MatchResult};
 ghost use Rattle.paths.specs.Laws.{Laws};
 ghost use Rattle.paths.specs.Paths.{Closure, relaxed};
@@ -74,7 +76,7 @@ fn relax<W: Weight>(table: &mut [W], n: usize, k: usize, i: usize, j: usize)
     requires through { k < n }
     requires row { i < n }
     requires column { j < n }
-    ensures { table.new ≡ relaxed none choose join n k i j table.old }
+    ensures { table.new ≡ relaxed W.none W.choose W.join n k i j table.old }
 {
     let through = table[place(n, i, k)].follow(table[place(n, k, j)]);
     let here = place(n, i, j);
@@ -84,7 +86,7 @@ fn relax<W: Weight>(table: &mut [W], n: usize, k: usize, i: usize, j: usize)
 // Lets in one place after another as an inner place of paths.
 fn close_square<W: Weight>(table: &mut [W], n: usize)
     requires square { length table.old ≡ n * n }
-    ensures { Closure none choose join n table.old table.new }
+    ensures { Closure W.none W.choose W.join n table.old table.new }
 {
     for k in 0..n {
         for i in 0..n {
@@ -99,7 +101,7 @@ fn close_square<W: Weight>(table: &mut [W], n: usize)
 pub fn close<W: Weight>(table: &mut [W], n: usize) -> Result<(), NotSquare>
     ensures square { Decides (is_ok result) (length table.old ≡ n * n) }
     ensures closed { MatchResult result
-        (λ _. Closure none choose join n table.old table.new)
+        (λ _. Closure W.none W.choose W.join n table.old table.new)
         (λ _. table.new ≡ table.old) }
 {
     if n.checked_mul(n) != Some(table.len()) {

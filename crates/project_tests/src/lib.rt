@@ -1,4 +1,6 @@
 // Projects on examples: what is read, answered, refused and written.
+#![tactic(auto)]
+
 #[cfg(test)]
 mod tests {
     use fault::{Fault, RunCause};

@@ -1,4 +1,6 @@
 // A list of at most N records in the order of their ranks, equals as they came.
+#![tactic(auto)]
+
 ghost use Rattle.std.specs.Prelude.{◌≡◌, ◌≤◌, [], length, is_ok, if◌then◌else◌, nat_lt};
 ghost use Rattle.std.specs.List.{insert, remove, slice_get};
 ghost use Rattle.bounded.specs.Held.{unwanted};

@@ -1,3 +1,4 @@
+pub mod Equal
 pub mod Lists
 pub mod Wiring
 pub mod Ways

@@ -3,7 +3,6 @@ use Rattle.std.proofs.Common.{◌≡◌, ℕ, zero, suc, ◌+◌, ◌<◌, ◌�
 use lib.Signed.{le_z}
 use Rattle.std.proofs.lemmas.Bool.{eq-eqb, cases_order, cases_lt, cases_eq, lt-ltb, lt-leb, and_left, not_from_true}
 use Rattle.fault.specs.declared.Fault.{Fault}
-use Rattle.fault.specs.declared.Fault
 use Rattle.fault.specs.declared.RunCause.TheVariants.{NoSuch, Nothing, Early, Behind, NotSooner, Full, Horizon}
 use Rattle.line.specs.Lists.{In}
 use Rattle.line.specs.Paths.{Path}

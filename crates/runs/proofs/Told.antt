@@ -24,7 +24,6 @@ use Rattle.runs.specs.declared.records.Step.{Step}
 use Rattle.runs.proofs.Accepted.{arrives, advances, accepted}
 use Rattle.runs.proofs.Run.{Run, arrive, advance, start, finish, deliver, close, came, begun, log, gone, posted}
 use Rattle.runs.proofs.Run.{given}
-use Rattle.runs.proofs.Run
 
 -- what start answered for a firing
 abbrev pub began : Line → Running → Started

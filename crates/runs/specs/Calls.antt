@@ -2,7 +2,6 @@
 use Rattle.std.specs.Prelude.{◌≡◌, ℕ, ◌+◌, ◌<◌, ◌≤◌, Bool, true, false, cond, not, ◌&&◌, ltb, ◌⊎◌, List, [], ◌∷◌, length, ℤ, pos, negsuc, ◌+ℤ◌, is_some, Some, None, Option, int_le, nat_le, nat_lt}
 use Rattle.std.specs.Option.{unwrap_or}
 use Rattle.fault.specs.declared.Fault.{Fault}
-use Rattle.fault.specs.declared.Fault
 use Rattle.fault.specs.declared.RunCause.{RunCause}
 use Rattle.fault.specs.declared.RunCause.TheVariants.{NoSuch, Window, Stale, Full, Back, Horizon, Due, Nothing}
 use Rattle.fault.specs.declared.RunCause.TheVariants.{Early, Behind, NotSooner}

@@ -1,7 +1,6 @@
 -- The laws over runs.
 use Rattle.std.specs.Prelude.{◌≡◌, ℕ, ◌<◌, ◌≤◌, true, false, ◌⊎◌, ◌↔◌, List, [], ◌++◌, map, length, Some, ◌≢◌}
 use Rattle.fault.specs.declared.Fault.{Fault}
-use Rattle.fault.specs.declared.Fault
 use Rattle.fault.specs.declared.RunCause.TheVariants.{Full, Horizon}
 use Rattle.line.specs.Lists.{In}
 use Rattle.line.specs.Times.{Line, Sound}

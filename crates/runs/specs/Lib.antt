@@ -5,3 +5,4 @@ pub mod Runs
 pub mod Safe
 pub mod Laws
 pub mod Sample
+pub mod Equal

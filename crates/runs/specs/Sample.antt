@@ -2,7 +2,6 @@
 -- that another pass, and an actuator.
 use Rattle.std.specs.Prelude.{ℕ, zero, suc, false, cond, List, [], ◌∷◌, ℤ, pos, negsuc, ◌+ℤ◌, Some, None, Option, int_lt, slice_index, slice_index_or}
 use Rattle.fault.specs.declared.Fault.{Fault}
-use Rattle.fault.specs.declared.Fault
 use Rattle.fault.specs.declared.RunCause.TheVariants.{Due, Nothing, Early, NotSooner}
 use Rattle.line.specs.Plan.{Plan}
 use Rattle.line.specs.Times.{Line, Sound}

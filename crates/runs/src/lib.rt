@@ -1,4 +1,6 @@
 // The runtime's calls by definition, and the laws that hold over every run of them.
+#![tactic(auto)]
+
 pub mod ranks;
 pub mod records;
 

@@ -3,6 +3,7 @@ ghost use Rattle.std.specs.Prelude.{◌≡◌, Decides};
 ghost use Rattle.std.specs.Cmp.Rules.{comparing};
 ghost use Rattle.std.proofs.Common.{rules};
 ghost use Rattle.std.specs.Cmp as Keys;
+ghost use Rattle.runs.specs.Equal.{running_eq, firing_eq};
 
 use fault::Fault;
 
@@ -125,11 +126,14 @@ fn same_ports(a: [Option<i32>; 4], b: [Option<i32>; 4]) -> bool
 }
 
 impl PartialEq for Running {
-    ghost equals = { λ x y r. Decides r (x ≡ y) };
+    ghost eq = { running_eq };
 
-    ghost laws = { Keys.partial_equiv_from_equiv (Prim.search (comparing, rules)) };
+    ghost laws = { Keys.partial_equiv_from_equiv (Prim.search (comparing, rules) depth 9) };
 
-    fn eq(&self, other: &Running) -> bool {
+    fn eq(&self, other: &Running) -> bool
+        ensures same { result ≡ running_eq self.now other.now }
+        ensures exact { Decides result (self.now ≡ other.now) }
+    {
         self.actor == other.actor
             && self.timestamp == other.timestamp
             && same_ports(self.inlets, other.inlets)
@@ -137,15 +141,18 @@ impl PartialEq for Running {
 }
 
 impl Eq for Running {
-    ghost laws = { Prim.search (comparing, rules) };
+    ghost laws = { Prim.search (comparing, rules) depth 9 };
 }
 
 impl PartialEq for Firing {
-    ghost equals = { λ x y r. Decides r (x ≡ y) };
+    ghost eq = { firing_eq };
 
-    ghost laws = { Keys.partial_equiv_from_equiv (Prim.search (comparing, rules)) };
+    ghost laws = { Keys.partial_equiv_from_equiv (Prim.search (comparing, rules) depth 9) };
 
-    fn eq(&self, other: &Firing) -> bool {
+    fn eq(&self, other: &Firing) -> bool
+        ensures same { result ≡ firing_eq self.now other.now }
+        ensures exact { Decides result (self.now ≡ other.now) }
+    {
         self.actor == other.actor
             && self.timestamp == other.timestamp
             && same_ports(self.inlets, other.inlets)
@@ -154,5 +161,5 @@ impl PartialEq for Firing {
 }
 
 impl Eq for Firing {
-    ghost laws = { Prim.search (comparing, rules) };
+    ghost laws = { Prim.search (comparing, rules) depth 9 };
 }

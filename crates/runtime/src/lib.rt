@@ -1,4 +1,6 @@
 // A line at work: open and closed runtimes over a bank.
+#![tactic(auto)]
+
 mod advance;
 mod arrive;
 mod closing;

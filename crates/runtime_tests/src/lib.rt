@@ -1,4 +1,6 @@
 // The runtime on the sample line, as far as its calls go.
+#![tactic(auto)]
+
 #[cfg(test)]
 mod tests {
     use fault::{Fault, RunCause};

@@ -1,4 +1,6 @@
 // Reads a line of a script into the call that it spells.
+#![tactic(auto)]
+
 mod calls;
 mod numbers;
 mod words;

@@ -1,4 +1,6 @@
 // Tests of reading the lines of a script.
+#![tactic(auto)]
+
 #[cfg(test)]
 mod tests {
     use runs::records::Call;

@@ -1,4 +1,6 @@
 // Runs a script of calls on a line, or compares what two scripts do.
+#![tactic(auto)]
+
 mod answers;
 mod entries;
 mod records;

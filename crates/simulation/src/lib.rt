@@ -1,4 +1,5 @@
 // Runs of a line: lists of calls performed over a bank, with the journal of what each call answered.
+#![tactic(auto)]
 
 // The calls that open and closed runtimes share; none for the others.
 macro_rules! shared {

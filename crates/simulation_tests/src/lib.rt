@@ -1,4 +1,6 @@
 // Runs of small lines: the worked examples of the rules, and what two runs owe each other.
+#![tactic(auto)]
+
 #[cfg(test)]
 mod examples;
 #[cfg(test)]

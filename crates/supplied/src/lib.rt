@@ -1,4 +1,6 @@
 // The supplied bank: the kinds of actors that a project can name.
+#![tactic(auto)]
+
 pub mod bank;
 pub mod kinds;
 pub mod laws;

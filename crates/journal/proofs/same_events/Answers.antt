@@ -6,8 +6,8 @@ pub returns : goal.returns
 returns c =
     let h = c.args.first.now in
     let k = c.args.second.now in
-    let r = c.same-for-all.result in
-    let below = decides_below r h k c.same-for-all.ensures.below in
+    let r = c.same_for_all.result in
+    let below = decides_below r h k c.same_for_all.ensures.below in
     record {
       below = below;
       runs = decides-events r h k below;

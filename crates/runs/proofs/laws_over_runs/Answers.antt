@@ -9,9 +9,9 @@ returns c = record {
   events_fix_beginnings = events_fix_beginnings;
   always_orderly = always_orderly;
   never_sticks = never_sticks;
-  always-bounded = always-bounded;
-  always-safe = always-safe;
-  every-call-answers = every-call-answers;
-  state-fixes-answer = state-fixes-answer;
-  journal-fixes-state = journal-fixes-state;
+  always_bounded = always-bounded;
+  always_safe = always-safe;
+  every_call_answers = every-call-answers;
+  state_fixes_answer = state-fixes-answer;
+  journal_fixes_state = journal-fixes-state;
 }

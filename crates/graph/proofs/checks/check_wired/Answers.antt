@@ -14,9 +14,9 @@ returns-in-Some-lowest c =
       refl,
       inr (q, refl, h.1),
       λ j lt.
-          ⊎_elim (λ i. c.in-default.ensures j (omega (arith, i.0, c.len.ensures.count)) i) (λ w. h.2 w.0 (omega (arith, w.1, lt)) w.2),
+          ⊎_elim (λ i. c.in_default.ensures j (omega (arith, i.0, c.len.ensures.count)) i) (λ w. h.2 w.0 (omega (arith, w.1, lt)) w.2),
     )
 
 pub returns-in-None : goal.returns-in-None
 returns-in-None c = λ k.
-    ⊎_elim (λ i. c.in-default.ensures k (omega (arith, i.0, c.len.ensures.count)) i) (λ w. c.in-None.ensures w.0 w.2.0 w.2)
+    ⊎_elim (λ i. c.in_default.ensures k (omega (arith, i.0, c.len.ensures.count)) i) (λ w. c.in-None.ensures w.0 w.2.0 w.2)

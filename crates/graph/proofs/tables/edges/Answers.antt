@@ -15,15 +15,15 @@ loop-c-init c = λ g. laid_none (plan_of c.args.draft.now) (replicate 1089 c.non
 pub loop-c-preserved : goal.loop-c-preserved
 loop-c-preserved c = λ g.
     let p = plan_of c.args.draft.now in
-    let cs = c.as-slice-channels.result.now in
+    let cs = c.as_slice-channels.result.now in
     let there = in-at cs c.loop-c.c-index no_channel c.loop-c-test.true in
-    let proper = g.channels _ (subst (In _) c.as-slice-channels.ensures there) in
+    let proper = g.channels _ (subst (In _) c.as_slice-channels.ensures there) in
     subst (λ (xs : List Channel). Laid p xs c.lay.new.table) (sym (take_more cs c.loop-c.c-index no_channel c.loop-c-test.true))
     (laid_more p (take c.loop-c.c-index cs) _ _ _ (c.loop-c.invariant g) (c.lay.ensures proper))
 
 pub returns : goal.returns
 returns c = λ g.
     let p = plan_of c.args.draft.now in
-    let cs = c.as-slice-channels.result.now in
-    subst (λ (xs : List Channel). Laid p xs c.loop-c.table) (take_all c.loop-c.c-index cs c.loop-c-test.false ∙ c.as-slice-channels.ensures)
+    let cs = c.as_slice-channels.result.now in
+    subst (λ (xs : List Channel). Laid p xs c.loop-c.table) (take_all c.loop-c.c-index cs c.loop-c-test.false ∙ c.as_slice-channels.ensures)
     (c.loop-c.invariant g)

@@ -9,11 +9,11 @@ loop-k-preserved c =
     let t = c.loop-k.table in
     let es = c.args.edges.now in
     let within : c.loop-k.k < length c.loop-k.table = omega (arith, c.loop-k.invariant.0) in
-    let here : get_or (set t k c.is-some.result) k false ≡ is_some (length_of (get_or es k no_span)) =
-    get_or-set_same t k c.is-some.result false within ∙ c.is-some.ensures ∙ ap is_some c.length.ensures
+    let here : get_or (set t k c.is_some.result) k false ≡ is_some (length_of (get_or es k no_span)) =
+    get_or-set_same t k c.is_some.result false within ∙ c.is_some.ensures ∙ ap is_some c.length.ensures
     ∙ ap (λ s. is_some (length_of s)) (get_or_default es k c.index-edges-k.result no_span (omega arith)) in (
-      length-set t k c.is-some.result ∙ c.loop-k.invariant.0,
-      below_more (λ j. get_or (set t k c.is-some.result) j false ≡ is_some (length_of (get_or es j no_span))) k
-          (λ j h. let ne : j ≢ k = omega arith in get_or-set_other t k j c.is-some.result false ne ∙ c.loop-k.invariant.1 j h)
+      length-set t k c.is_some.result ∙ c.loop-k.invariant.0,
+      below_more (λ j. get_or (set t k c.is_some.result) j false ≡ is_some (length_of (get_or es j no_span))) k
+          (λ j h. let ne : j ≢ k = omega arith in get_or-set_other t k j c.is_some.result false ne ∙ c.loop-k.invariant.1 j h)
           here,
     )

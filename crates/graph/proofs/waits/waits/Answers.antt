@@ -11,8 +11,8 @@ loop-a-preserved c =
     let f = c.args.far.now in
     let a = c.loop-a.a in
     let t = c.loop-a.table in
-    let w = to_z w64 (of_z w64 c.unwrap-or.result) in
-    let fits : SFits w64 c.unwrap-or.result = record { sfits = c.unwrap-or.type-inv } in
+    let w = to_z w64 (of_z w64 c.unwrap_or.result) in
+    let fits : SFits w64 c.unwrap_or.result = record { sfits = c.unwrap_or.type_inv } in
     let within : c.loop-a.a < length c.loop-a.table = omega (arith, c.loop-a.invariant.0) in (
       length-set t a w ∙ c.loop-a.invariant.0,
       λ g F. below_more (λ k. Awaits p f k (get_or (set t a w) k (pos 0))) a
@@ -20,5 +20,5 @@ loop-a-preserved c =
           let ne : k ≢ a = omega arith in
           let old = c.loop-a.invariant.1 g F k h in
           (old.0, old.1, get_or-set_other t a k w (pos 0) ne ∙ old.2))
-          (c.wait-of.result, c.wait-of.ensures g F, get_or-set_same t a w (pos 0) within ∙ to_z-of_z w64 _ fits ∙ c.unwrap-or.ensures),
+          (c.wait_of.result, c.wait_of.ensures g F, get_or-set_same t a w (pos 0) within ∙ to_z-of_z w64 _ fits ∙ c.unwrap_or.ensures),
     )

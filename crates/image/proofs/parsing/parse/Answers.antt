@@ -4,44 +4,44 @@ use Rattle.image.proofs.Front.{fronted}
 use Rattle.image.proofs.Order.{first_head, first_count, first-length, first_field}
 use Rattle.image.proofs.parsing.parse.Goals as goal
 
-pub returns-in-err-check-head : goal.returns-in-err-check-head
-returns-in-err-check-head c =
-    let p = err_from_is_err_and c.from-residual.result c.from-residual.ensures.1 in
-    let low = c.in-err-check-head.ensures.checked in
+pub returns-in_err-check_head : goal.returns-in_err-check_head
+returns-in_err-check_head c =
+    let p = err_from_is_err_and c.from_residual.result c.from_residual.ensures.1 in
+    let low = c.in_err-check_head.ensures.checked in
     rw (p.1, p.2, low.1) (first_head c.args.bytes.now low.0 low.2, omega arith)
 
-pub returns-in-err-counts : goal.returns-in-err-counts
-returns-in-err-counts c =
-    let r = c.from-residual-in-err-counts in
+pub returns-in_err-counts : goal.returns-in_err-counts
+returns-in_err-counts c =
+    let r = c.from_residual-in_err-counts in
     let p = err_from_is_err_and r.result r.ensures.1 in
-    let low = c.in-err-counts.ensures.checked in
+    let low = c.in_err-counts.ensures.checked in
     rw (p.1, p.2, low.1) (
       first_count c.args.bytes.now low.0
-          c.in-ok-check-head.ensures.checked low.2,
+          c.in_ok-check_head.ensures.checked low.2,
       omega arith,
     )
 
-pub returns-in-err-check-length : goal.returns-in-err-check-length
-returns-in-err-check-length c =
-    let r = c.from-residual-in-err-check-length in
+pub returns-in_err-check_length : goal.returns-in_err-check_length
+returns-in_err-check_length c =
+    let r = c.from_residual-in_err-check_length in
     let p = err_from_is_err_and r.result r.ensures.1 in
-    let low = c.in-err-check-length.ensures in
+    let low = c.in_err-check_length.ensures in
     rw (p.1, p.2, low.1) (
-      first-length c.args.bytes.now low.0 c.in-ok-check-head.ensures.checked
-          c.in-ok-counts.ensures.checked low.2,
+      first-length c.args.bytes.now low.0 c.in_ok-check_head.ensures.checked
+          c.in_ok-counts.ensures.checked low.2,
       omega arith,
     )
 
-pub read-records-requires : goal.read-records-requires
-read-records-requires c =
-    fronted c.args.bytes.now c.in-ok-check-head.ensures.long _
-    c.in-ok-counts.ensures.counts
-    c.in-ok-check-head.ensures.checked c.in-ok-counts.ensures.checked
-    c.in-ok-check-length.ensures
+pub read_records-requires : goal.read_records-requires
+read_records-requires c =
+    fronted c.args.bytes.now c.in_ok-check_head.ensures.long _
+    c.in_ok-counts.ensures.counts
+    c.in_ok-check_head.ensures.checked c.in_ok-counts.ensures.checked
+    c.in_ok-check_length.ensures
 
 pub returns-in-Err : goal.returns-in-Err
 returns-in-Err c = (
-  first_field c.args.bytes.now c.in-Err.place c.in-ok-check-head.ensures.checked
-      c.in-ok-counts.ensures.checked c.in-ok-check-length.ensures c.in-Err.ensures,
+  first_field c.args.bytes.now c.in-Err.place c.in_ok-check_head.ensures.checked
+      c.in_ok-counts.ensures.checked c.in_ok-check_length.ensures c.in-Err.ensures,
   omega arith,
 )

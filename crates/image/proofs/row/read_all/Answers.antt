@@ -11,15 +11,15 @@ read-requires g c =
     let room = before g.R.Row.wide c.loop-i.i c.args.many c.loop-i-test.true in
     record { room = omega (arith, c.loop-i.invariant.0, c.requires.room); counted = c.requires.counted }
 
-pub overflow-add-result : goal.overflow-add-result
-overflow-add-result g c =
+pub overflow_add-result : goal.overflow_add-result
+overflow_add-result g c =
     let room = before g.R.Row.wide c.loop-i.i c.args.many c.loop-i-test.true in
     let h : c.loop-i.from + c.in-Err.offset ≤ length c.args.bytes.now
     = omega (arith, c.loop-i.invariant.0, c.requires.room, c.in-Err.ensures.0) in
     search rules
 
-pub overflow-add-from : goal.overflow-add-from
-overflow-add-from g c =
+pub overflow_add-from : goal.overflow_add-from
+overflow_add-from g c =
     let room = before g.R.Row.wide c.loop-i.i c.args.many c.loop-i-test.true in
     let h : c.loop-i.from + c.width-from.result ≤ length c.args.bytes.now
     = omega (arith, c.loop-i.invariant.0, c.requires.room, c.width-from.ensures) in

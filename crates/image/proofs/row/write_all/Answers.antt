@@ -18,8 +18,8 @@ write-requires g c =
           c.loop-i-test.true,
     )
 
-pub overflow-add-to : goal.overflow-add-to
-overflow-add-to g c =
+pub overflow_add-to : goal.overflow_add-to
+overflow_add-to g c =
     let room = before g.R.Row.wide c.loop-i.i (length c.args.rows.now) c.loop-i-test.true in
     let h : c.loop-i.to + c.width-to.result ≤ length c.args.bytes.now
     = omega (arith, c.loop-i.invariant.0, c.width-to.ensures) in

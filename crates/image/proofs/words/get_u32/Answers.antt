@@ -7,5 +7,5 @@ pub returns : goal.returns
 returns c =
     let are = c.four.ensures.are in
     let long : length c.four.result ≡ 4 = ap length are ∙ length-between _ _ _ c.requires in
-    let is = c.from-le-bytes.ensures ∙ val-four _ long in
+    let is = c.from_le_bytes.ensures ∙ val-four _ long in
     record { value = is ∙ ap val are; back = ap (le 4) is ∙ le_val _ long c.four.ensures.octets ∙ are }

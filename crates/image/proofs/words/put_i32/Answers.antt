@@ -6,5 +6,5 @@ use Rattle.image.proofs.words.put_i32.Goals as goal
 
 pub returns : goal.returns
 returns c =
-    let bytes = c.to-le-bytes.ensures ∙ le_four _ ∙ ap (λ z. le 4 (of_z w32 z)) (to_z-of_z w32 _ c.ranges.x) in
-    c.put-bytes.ensures ∙ ap (put c.args.bytes.now c.args.at) bytes
+    let bytes = c.to_le_bytes.ensures ∙ le_four _ ∙ ap (λ z. le 4 (of_z w32 z)) (to_z-of_z w32 _ c.ranges.x) in
+    c.put_bytes.ensures ∙ ap (put c.args.bytes.now c.args.at) bytes

@@ -13,9 +13,9 @@ pub loop-x-preserved : goal.loop-x-preserved
 loop-x-preserved c =
     let x = c.loop-x.x in
     let inside : c.loop-x.x < length c.loop-x.rows = omega (arith, c.loop-x.invariant.0) in
-    let row = c.first-row.result in
-    let value : row.lateness ≡ lateness (plan c.args.project.now) c.loop-x.x = ap (λ (r : SensorRow). r.lateness) c.first-row.ensures ∙ ap (λ v. unwrap_or v 0) c.lateness.ensures ∙ nth-or _ x in
-    let silent : row.last ≡ None = ap (λ (r : SensorRow). r.last) c.first-row.ensures in (
+    let row = c.first_row.result in
+    let value : row.lateness ≡ lateness (plan c.args.project.now) c.loop-x.x = ap (λ (r : SensorRow). r.lateness) c.first_row.ensures ∙ ap (λ v. unwrap_or v 0) c.lateness.ensures ∙ nth-or _ x in
+    let silent : row.last ≡ None = ap (λ (r : SensorRow). r.last) c.first_row.ensures in (
       length-set _ _ _ ∙ c.loop-x.invariant.0,
       (λ k h. set-lateness _ x row inside k ∙ elim (cases_eq k x) [
         | inl e ↦ rw (eq-eqb k x e) (rw e value)

@@ -8,8 +8,8 @@ use Rattle.runtime.proofs.sending.send_all.Goals as goal
 pub loop-outlet-init : goal.loop-outlet-init
 loop-outlet-init c = (refl, refl)
 
-pub send-from-requires : goal.send-from-requires
-send-from-requires c =
+pub send_from-requires : goal.send_from-requires
+send_from-requires c =
     let inside : c.loop-outlet.outlet < 4 = omega arith in
     let events = event_from (plan c.args.project.now) c.args.firing.now in
     let outputs = output_from (plan c.args.project.now) c.args.firing.now in
@@ -25,8 +25,8 @@ loop-outlet-preserved c =
     let inside : c.loop-outlet.outlet < 4 = omega arith in
     let events = event_from (plan c.args.project.now) c.args.firing.now in
     let outputs = output_from (plan c.args.project.now) c.args.firing.now in (
-      sent-more event_time events (held c.args.events.now) _ _ _ inside c.loop-outlet.invariant.0 c.send-from.ensures.events,
-      sent-more output_time outputs (held c.args.outputs.now) _ _ _ inside c.loop-outlet.invariant.1 c.send-from.ensures.outputs,
+      sent-more event_time events (held c.args.events.now) _ _ _ inside c.loop-outlet.invariant.0 c.send_from.ensures.events,
+      sent-more output_time outputs (held c.args.outputs.now) _ _ _ inside c.loop-outlet.invariant.1 c.send_from.ensures.outputs,
     )
 
 pub returns : goal.returns

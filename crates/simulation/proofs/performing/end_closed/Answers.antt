@@ -8,7 +8,7 @@ returns-in-Ok g c =
     let h = vec_items c.args.journal in
     let i = c.args.line.inner in
     let j = c.close-line.result.inner in
-    let line = c.work-closed-worked.new.line in
+    let line = c.work_closed-worked.new.line in
     let done = c.in-Ok.ensures in
     let shut = sym (ap not line.shut) in
     worked-ended means i h line.inner _ _ c.end-bank.result

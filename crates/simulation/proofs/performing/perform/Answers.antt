@@ -17,7 +17,7 @@ returns-in-None g c =
     let done = c.in-Ok.ensures in
     let calls = (rw c.in-None.is at done.calls) ∙ ap (λ (h : Journal). called h ++ existing all) c.new-journal.ensures.items in
     record {
-      ran = made-map c.end-open.result.run _ _ (λ run e. ran means c.args.project c.args.bank c.open-line.result.inner h _ _ _ all run c.end-open.result.bank c.open-line.ensures c.new-journal.ensures.items done.worked e calls) c.end-open.ensures;
+      ran = made-map c.end_open.result.run _ _ (λ run e. ran means c.args.project c.args.bank c.open-line.result.inner h _ _ _ all run c.end_open.result.bank c.open-line.ensures c.new-journal.ensures.items done.worked e calls) c.end_open.ensures;
       laws = laws-over-runs;
     }
 
@@ -27,11 +27,11 @@ returns-in-Some g c =
     let all = c.args.calls.now in
     let h = vec_items c.new-journal.result in
     let done = c.in-Ok.ensures in
-    let k = vec_items c.work-open.new.journal in
+    let k = vec_items c.work_open.new.journal in
     let rest = ap (λ (cs : List Call). called k ++ Close ∷ when_closed cs) (part-rest all c.in-Some.next) in
     let calls = rest ∙ (rw c.in-Some.is at done.calls).1 ∙ ap (λ (h : Journal). called h ++ existing all) c.new-journal.ensures.items in
     record {
-      ran = made-map c.end-closed.result.run _ _ (λ run e. ran means c.args.project c.args.bank c.open-line.result.inner h _ _ _ all run c.end-closed.result.bank c.open-line.ensures c.new-journal.ensures.items done.worked e calls) c.end-closed.ensures;
+      ran = made-map c.end_closed.result.run _ _ (λ run e. ran means c.args.project c.args.bank c.open-line.result.inner h _ _ _ all run c.end_closed.result.bank c.open-line.ensures c.new-journal.ensures.items done.worked e calls) c.end_closed.ensures;
       laws = laws-over-runs;
     }
 

@@ -4,4 +4,4 @@ use Rattle.graph.proofs.Found.{idle}
 use Rattle.graph.proofs.flaws.IdleSensorCondition.is_met.Goals as goal
 
 pub returns : goal.returns
-returns c = idle (plan_of c.args.self.now.0.now) c.args.k _ _ _ c.as-slice.ensures (omega arith) c.end-of.ensures c.is-none.ensures
+returns c = idle (plan_of c.args.self.now.0.now) c.args.k _ _ _ c.as_slice.ensures (omega arith) c.end_of.ensures c.is_none.ensures

@@ -6,8 +6,8 @@ use Rattle.graph.specs.Tables.{Serves}
 use Rattle.drafts.proofs.Nths.{nth-some, nth-none}
 use Rattle.graph.proofs.flaws.ServingChannelCondition.is_met.Goals as goal
 
-pub returns-in-default : goal.returns-in-default
-returns-in-default c = (λ e. absurd (false≢true e), λ w. absurd (omega (arith, w.0, (nth-none _ c.args.k no_channel c.in-default.ensures).0)))
+pub returns-in_default : goal.returns-in_default
+returns-in_default c = (λ e. absurd (false≢true e), λ w. absurd (omega (arith, w.0, (nth-none _ c.args.k no_channel c.in_default.ensures).0)))
 
 pub returns : goal.returns
 returns c =

@@ -4,4 +4,4 @@ use Rattle.graph.proofs.Found.{doubled}
 use Rattle.graph.proofs.flaws.SharedSinkCondition.is_met.Goals as goal
 
 pub returns : goal.returns
-returns c = doubled (plan_of c.args.self.now.0.now) c.args.k _ _ _ _ c.as-slice-channels.ensures (omega arith) (omega arith) c.origin-of.ensures c.is-some.ensures
+returns c = doubled (plan_of c.args.self.now.0.now) c.args.k _ _ _ _ c.as_slice-channels.ensures (omega arith) (omega arith) c.origin_of.ensures c.is_some.ensures

@@ -4,4 +4,4 @@ use Rattle.graph.proofs.Found.{unfed}
 use Rattle.graph.proofs.flaws.UnfedActuatorCondition.is_met.Goals as goal
 
 pub returns : goal.returns
-returns c = unfed (plan_of c.args.self.now.0.now) c.args.k _ _ _ c.as-slice.ensures (omega arith) c.origin-of.ensures c.is-none.ensures
+returns c = unfed (plan_of c.args.self.now.0.now) c.args.k _ _ _ c.as_slice.ensures (omega arith) c.origin_of.ensures c.is_none.ensures

@@ -13,12 +13,12 @@ pub returns : goal.returns
 returns c =
     let bs = c.args.bytes.now in
     let b = c.args.at in
-    let z = c.get-i32.result in
-    let d = c.get-u32.result in
+    let z = c.get_i32.result in
+    let d = c.get_u32.result in
     let fits : SFits w32 z = search rules in
     let judged = subst (λ (y : ℤ). Judged actor_bytes Possible (BadActorOf (byte bs b) y d)
-    (fields_bytes (byte bs b) y d) 9 c.actor-of.result)
-    (to_z-of_z w32 z fits) c.actor-of.ensures in
-    judged-same actor_bytes Possible _ _ _ _ 9 c.actor-of.result
-    (actor-fields bs b z d fits c.get-i32.ensures.value c.get-u32.ensures.value)
-    (nine-at bs b _ _ c.requires.room c.get-i32.ensures.back c.get-u32.ensures.back) judged
+    (fields_bytes (byte bs b) y d) 9 c.actor_of.result)
+    (to_z-of_z w32 z fits) c.actor_of.ensures in
+    judged-same actor_bytes Possible _ _ _ _ 9 c.actor_of.result
+    (actor-fields bs b z d fits c.get_i32.ensures.value c.get_u32.ensures.value)
+    (nine-at bs b _ _ c.requires.room c.get_i32.ensures.back c.get_u32.ensures.back) judged

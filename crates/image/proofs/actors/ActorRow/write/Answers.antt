@@ -13,8 +13,8 @@ returns c =
     let fits : SFits w32 x.parameter = search rules in
     let p = le 4 (of_z w32 x.parameter) in
     let k = kind_number x.kind in
-    let one = ap (set d at) c.number-of.ensures ∙ put_one d at k (omega arith) in
-    let two = c.put-i32.ensures ∙ ap (λ z. put (set d at c.number-of.result) (at + 1) (le 4 (of_z w32 z)))
+    let one = ap (set d at) c.number_of.ensures ∙ put_one d at k (omega arith) in
+    let two = c.put_i32.ensures ∙ ap (λ z. put (set d at c.number_of.result) (at + 1) (le 4 (of_z w32 z)))
     (to_z-of_z w32 x.parameter fits) in
     put_next d (k ∷ p) (le 4 x.delay) at (at + 5) (omega arith) refl
-    (put_next d (k ∷ []) p at (at + 1) (omega arith) refl one two) c.put-u32.ensures
+    (put_next d (k ∷ []) p at (at + 1) (omega arith) refl one two) c.put_u32.ensures

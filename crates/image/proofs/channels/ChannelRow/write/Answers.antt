@@ -12,5 +12,5 @@ returns c =
     let x = c.args.self in
     put_next d (source_bytes x.source) (sink_bytes x.sink) at (at + 3) (omega arith)
     (ap (λ n. at + n) (length-source x.source))
-    (c.put-bytes.ensures ∙ ap (put d at) c.spell-source.ensures)
-    (c.put-bytes-2.ensures ∙ ap (put c.put-bytes.new.bytes (at + 3)) c.spell-sink.ensures)
+    (c.put_bytes.ensures ∙ ap (put d at) c.spell_source.ensures)
+    (c.put_bytes-2.ensures ∙ ap (put c.put_bytes.new.bytes (at + 3)) c.spell_sink.ensures)

@@ -1,4 +1,4 @@
 use Rattle.project.proofs.project.Project.of.Goals as goal
 
-pub invariant-of-result : goal.invariant-of-result
-invariant-of-result c = (∣ c.in-ok-times.ensures (c.requires.sized, c.requires.ranged) ∣₁, tt)
+pub invariant_of-result : goal.invariant_of-result
+invariant_of-result c = record { sound = ∣ c.in_ok-times.ensures (c.requires.sized, c.requires.ranged) ∣₁ }

@@ -7,28 +7,28 @@ use Rattle.line.specs.Rules.{Lawful}
 use Rattle.project.proofs.Reading.{foreign-bytes, first_of, only, foreign, clean}
 use Rattle.project.proofs.project.Project.read.Goals as goal
 
-pub returns-in-err-draft : goal.returns-in-err-draft
-returns-in-err-draft c =
-    let e = err_from_is_err_and c.from-residual.result c.from-residual.ensures.1 in
-    let w = c.in-err-draft.ensures in
+pub returns-in_err-draft : goal.returns-in_err-draft
+returns-in_err-draft c =
+    let e = err_from_is_err_and c.from_residual.result c.from_residual.ensures.1 in
+    let w = c.in_err-draft.ensures in
     rw (e.1, e.2) (record { first = w.0; foreign = foreign-bytes c.args.bytes.now _ w.0 w.1 }, refl)
 
-pub returns-in-err-self : goal.returns-in-err-self
-returns-in-err-self c =
-    let e = err_from_is_err_and c.from-residual-in-err-self.result c.from-residual-in-err-self.ensures.1 in
-    let d = c.in-ok-draft.ensures in
+pub returns-in_err-self : goal.returns-in_err-self
+returns-in_err-self c =
+    let e = err_from_is_err_and c.from_residual-in_err-self.result c.from_residual-in_err-self.ensures.1 in
+    let d = c.in_ok-draft.ensures in
     let bs = c.args.bytes.now in
-    let p = plan_of c.in-ok-draft.draft in
-    let w = c.in-err-self.ensures in
+    let p = plan_of c.in_ok-draft.draft in
+    let w = c.in_err-self.ensures in
     rw (e.1, e.2)
     (record { first = first_of bs p d.spelt d.sized d.ranged _ w; foreign = foreign bs p d.spelt d.sized d.ranged _ w }, refl)
 
 pub returns : goal.returns
 returns c =
-    let d = c.in-ok-draft.ensures in
+    let d = c.in_ok-draft.ensures in
     let bs = c.args.bytes.now in
-    let p = plan_of c.in-ok-draft.draft in
-    let w = c.in-ok-self.ensures in
+    let p = plan_of c.in_ok-draft.draft in
+    let w = c.in_ok-self.ensures in
     record {
       lawful = subst (λ (x : Draft). Lawful (plan_of x)) (sym w.0) w.1;
       spelt = d.spelt ∙ ap (λ x. image (plan_of x)) (sym w.0);

@@ -1,8 +1,8 @@
 use Rattle.std.proofs.Common.{refl, ◌∙◌}
 use Rattle.runtime.proofs.runtime.OpenRuntime.advance.Goals as goal
 
-pub invariant-of-self : goal.invariant-of-self
-invariant-of-self g c = (c.advance.ensures.taking ∙ c.args.self.now.taking, tt)
+pub invariant_of-self : goal.invariant_of-self
+invariant_of-self g c = (c.advance.ensures.taking ∙ c.args.self.now.taking, tt)
 
 pub returns : goal.returns
 returns g c = record {

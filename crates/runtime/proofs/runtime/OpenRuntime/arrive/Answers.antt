@@ -2,8 +2,8 @@ use Rattle.std.proofs.Common.{refl, ◌∙◌, w32}
 use Rattle.std.proofs.lemmas.Int.{to_z-of_z}
 use Rattle.runtime.proofs.runtime.OpenRuntime.arrive.Goals as goal
 
-pub invariant-of-self : goal.invariant-of-self
-invariant-of-self g c = (c.arrive.ensures.taking ∙ c.args.self.now.taking, tt)
+pub invariant_of-self : goal.invariant_of-self
+invariant_of-self g c = (c.arrive.ensures.taking ∙ c.args.self.now.taking, tt)
 
 pub returns : goal.returns
 returns g c =

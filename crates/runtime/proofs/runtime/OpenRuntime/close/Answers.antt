@@ -3,8 +3,8 @@ use Rattle.runs.specs.State.{State}
 use Rattle.runtime.proofs.States.{no_bank}
 use Rattle.runtime.proofs.runtime.OpenRuntime.close.Goals as goal
 
-pub invariant-of-result : goal.invariant-of-result
-invariant-of-result g c = (ap (λ (s : State). s.taking) (c.close.ensures.state no_bank), tt)
+pub invariant_of-result : goal.invariant_of-result
+invariant_of-result g c = (ap (λ (s : State). s.taking) (c.close.ensures.state no_bank), tt)
 
 pub returns : goal.returns
 returns g c = record {

@@ -2,10 +2,10 @@ use Rattle.std.proofs.Common.{sym, ◌∙◌, arith}
 use Rattle.runtime.proofs.States.{secure-advanced}
 use Rattle.runtime.proofs.state.Core.advance.Goals as goal
 
-pub invariant-of-self : goal.invariant-of-self
-invariant-of-self c =
+pub invariant_of-self : goal.invariant_of-self
+invariant_of-self c =
     let was = c.args.self.now in
-    let none = sym c.due-before.ensures ∙ c.in-default.is in (
+    let none = sym c.due_before.ensures ∙ c.in_default.is in (
       secure-advanced _ _ c.args.clock (omega arith) (omega arith) none was.secure,
       (was.known, (was.inlets, (was.actuators, tt))),
     )

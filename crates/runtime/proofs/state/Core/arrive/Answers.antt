@@ -15,15 +15,15 @@ use Rattle.runtime.proofs.Sensors.{same-lateness}
 use Rattle.runtime.proofs.States.{arrive_room, arrived-state, secure-arrived, accepted}
 use Rattle.runtime.proofs.state.Core.arrive.Goals as goal
 
-pub invariant-of-self : goal.invariant-of-self
-invariant-of-self c =
+pub invariant_of-self : goal.invariant_of-self
+invariant_of-self c =
     let was = c.args.self.now in
     let x = c.args.sensor in
     let t = c.args.timestamp in
     let value = to_z-of_z w32 c.args.value c.ranges.value in
     let inside : c.args.sensor < length c.args.self.now.sensors = search rules in
-    let sent = c.post.ensures ∙ ap (λ (es : List Event). put_all event_time es (held c.args.self.now.events)) c.event-at-event.ensures ∙ ap₂ (λ k v. put_all event_time (event_at k c.args.timestamp (Some v)) (held c.args.self.now.events)) c.feed-sink.ensures value in
-    let free = sym c.arrive-fault.ensures ∙ c.in-default.is in
+    let sent = c.post.ensures ∙ ap (λ (es : List Event). put_all event_time es (held c.args.self.now.events)) c.event_at-event.ensures ∙ ap₂ (λ k v. put_all event_time (event_at k c.args.timestamp (Some v)) (held c.args.self.now.events)) c.feed-sink.ensures value in
+    let free = sym c.arrive_fault.ensures ∙ c.in_default.is in
     let l = line c.args.self.now.project in
     let safe = secure-arrived l was.project.sound (state_over was no_rows) x t c.args.value c.requires free was.secure in
     let same = arrived-state l was.clock was.taking was.sensors (held was.events) (bounded.held was.stack) (held was.outputs) no_rows x t c.args.value _ inside sent in
@@ -36,8 +36,8 @@ returns c =
     let t = c.args.timestamp in
     let value = to_z-of_z w32 c.args.value c.ranges.value in
     let inside : c.args.sensor < length c.args.self.now.sensors = search rules in
-    let sent = c.post.ensures ∙ ap (λ (es : List Event). put_all event_time es (held c.args.self.now.events)) c.event-at-event.ensures ∙ ap₂ (λ k v. put_all event_time (event_at k c.args.timestamp (Some v)) (held c.args.self.now.events)) c.feed-sink.ensures value in
-    let free = sym c.arrive-fault.ensures ∙ c.in-default.is in
+    let sent = c.post.ensures ∙ ap (λ (es : List Event). put_all event_time es (held c.args.self.now.events)) c.event_at-event.ensures ∙ ap₂ (λ k v. put_all event_time (event_at k c.args.timestamp (Some v)) (held c.args.self.now.events)) c.feed-sink.ensures value in
+    let free = sym c.arrive_fault.ensures ∙ c.in_default.is in
     record {
       outcome = λ m.
           let same = arrived-state (line was.project) was.clock was.taking was.sensors (held was.events) (bounded.held was.stack) (held was.outputs) m.rows x t c.args.value _ inside sent in
@@ -51,5 +51,5 @@ returns c =
 pub post-requires : goal.post-requires
 post-requires c =
     let was = c.args.self.now in
-    let free = sym c.arrive-fault.ensures ∙ c.in-default.is in
-    (lit< tt, arrive_room (line was.project) (state_over was no_rows) c.args.sensor c.args.timestamp free c.feed-sink.result c.args.timestamp (Some (to_z w32 (of_z w32 c.args.value))) _ c.event-at-event.ensures)
+    let free = sym c.arrive_fault.ensures ∙ c.in_default.is in
+    (lit< tt, arrive_room (line was.project) (state_over was no_rows) c.args.sensor c.args.timestamp free c.feed-sink.result c.args.timestamp (Some (to_z w32 (of_z w32 c.args.value))) _ c.event_at-event.ensures)

@@ -6,9 +6,9 @@ use Rattle.runtime.specs.Meant.{no_rows}
 use Rattle.runtime.proofs.Waiting.{outputs-first, none-waits, none_due, delivers}
 use Rattle.runtime.proofs.state.Core.deliver.Goals as goal
 
-pub returns-in-default : goal.returns-in-default
-returns-in-default c = record {
-  outcome = λ m. (refl, none-waits _ _ (sym c.first.ensures ∙ c.in-default.is), refl);
+pub returns-in_default : goal.returns-in_default
+returns-in_default c = record {
+  outcome = λ m. (refl, none-waits _ _ (sym c.first.ensures ∙ c.in_default.is), refl);
   project = refl;
   taking = refl;
 }
@@ -23,14 +23,14 @@ returns-then-self-first c =
       taking = refl;
     }
 
-pub invariant-of-self : goal.invariant-of-self
-invariant-of-self c =
+pub invariant_of-self : goal.invariant_of-self
+invariant_of-self c =
     let was = c.args.self.now in
     let rise = outputs-first _ _ was.secure in
     let first = sym c.first.ensures ∙ c.in-Some.is in
     let out = delivers (state_over c.args.self.now no_rows) c.in-Some.first (handing was.clock c.in-Some.first) refl rise first
     c.if-self-first.false in
-    (rw c.take-first.ensures.after (secure-deliver _ _ _ _ out was.secure), (was.known, (was.inlets, (was.actuators, tt))))
+    (rw c.take_first.ensures.after (secure-deliver _ _ _ _ out was.secure), (was.known, (was.inlets, (was.actuators, tt))))
 
 pub returns : goal.returns
 returns c =
@@ -38,7 +38,7 @@ returns c =
     let rise = outputs-first _ _ was.secure in
     let first = sym c.first.ensures ∙ c.in-Some.is in
     record {
-      outcome = λ m. (_, delivers (state_over c.args.self.now m.rows) c.in-Some.first c.hand-out.result c.hand-out.ensures rise first c.if-self-first.false, rw c.take-first.ensures.after refl);
+      outcome = λ m. (_, delivers (state_over c.args.self.now m.rows) c.in-Some.first c.hand_out.result c.hand_out.ensures rise first c.if-self-first.false, rw c.take_first.ensures.after refl);
       project = refl;
       taking = refl;
     }

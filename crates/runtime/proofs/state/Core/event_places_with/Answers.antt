@@ -4,10 +4,10 @@ use Rattle.runtime.specs.Model.{state_over}
 use Rattle.runtime.proofs.States.{event_places-fit}
 use Rattle.runtime.proofs.state.Core.event_places_with.Goals as goal
 
-pub overflow-add-result : goal.overflow-add-result
-overflow-add-result c =
+pub overflow_add-result : goal.overflow_add-result
+overflow_add-result c =
     let most = event_places-fit _ (state_over c.args.self.now no_rows) c.args.self.now.secure in omega arith
 
-pub overflow-add-result-2 : goal.overflow-add-result-2
-overflow-add-result-2 c =
+pub overflow_add-result-2 : goal.overflow_add-result-2
+overflow_add-result-2 c =
     let most = event_places-fit _ (state_over c.args.self.now no_rows) c.args.self.now.secure in omega arith

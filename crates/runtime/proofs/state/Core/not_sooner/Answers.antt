@@ -7,25 +7,25 @@ use Rattle.runtime.specs.Model.{state_over}
 use Rattle.runtime.proofs.Tops.{top-final, none-sooner, top-sooner, top-inside, top-in_time}
 use Rattle.runtime.proofs.state.Core.not_sooner.Goals as goal
 
-pub returns-in-err-top : goal.returns-in-err-top
-returns-in-err-top c =
+pub returns-in_err-top : goal.returns-in_err-top
+returns-in_err-top c =
     let fs = held c.args.self.now.stack in
-    c.from-residual.ensures
-    ∙ sym (none-sooner (line c.args.self.now.project) c.args.deadline (top_first fs) (top-final fs ∙ sym c.last.ensures ∙ c.in-err-top.was))
+    c.from_residual.ensures
+    ∙ sym (none-sooner (line c.args.self.now.project) c.args.deadline (top_first fs) (top-final fs ∙ sym c.last.ensures ∙ c.in_err-top.was))
 
-pub deadline-at-limit-requires : goal.deadline-at-limit-requires
-deadline-at-limit-requires c =
+pub deadline_at-limit-requires : goal.deadline_at-limit-requires
+deadline_at-limit-requires c =
     let was = c.args.self.now in
-    let top = top-final (held was.stack) ∙ sym c.last.ensures ∙ c.in-ok-top.was in
+    let top = top-final (held was.stack) ∙ sym c.last.ensures ∙ c.in_ok-top.was in
     let s = state_over was no_rows in
     record {
-      inside = top-inside (line was.project) s c.in-ok-top.top top was.secure;
-      in_time = top-in_time (line was.project) s c.in-ok-top.top top was.secure;
+      inside = top-inside (line was.project) s c.in_ok-top.top top was.secure;
+      in_time = top-in_time (line was.project) s c.in_ok-top.top top was.secure;
     }
 
 pub returns : goal.returns
 returns c =
     let was = c.args.self.now in
-    let top = top-final (held was.stack) ∙ sym c.last.ensures ∙ c.in-ok-top.was in
-    let here = top-sooner (line was.project) c.args.deadline (top_first (held was.stack)) c.in-ok-top.top top in
-    c.not-below.ensures ∙ ap (λ n. when (leb n c.args.deadline) n) c.deadline-at-limit.ensures ∙ sym here
+    let top = top-final (held was.stack) ∙ sym c.last.ensures ∙ c.in_ok-top.was in
+    let here = top-sooner (line was.project) c.args.deadline (top_first (held was.stack)) c.in_ok-top.top top in
+    c.not_below.ensures ∙ ap (λ n. when (leb n c.args.deadline) n) c.deadline_at-limit.ensures ∙ sym here

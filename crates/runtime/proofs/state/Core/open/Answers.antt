@@ -7,20 +7,20 @@ use Rattle.runs.specs.Safe.{Secure}
 use Rattle.runtime.proofs.States.{fresh-state, no_bank}
 use Rattle.runtime.proofs.state.Core.open.Goals as goal
 
-pub invariant-of-result : goal.invariant-of-result
-invariant-of-result c =
-    let same = fresh-state c.sensor-rows.result (queue.held c.new.result) (bounded.held c.new-2.result)
-    (queue.held c.new-3.result) no_bank c.sensor-rows.ensures.silent c.new.ensures c.new-2.ensures
+pub invariant_of-result : goal.invariant_of-result
+invariant_of-result c =
+    let same = fresh-state c.sensor_rows.result (queue.held c.new.result) (bounded.held c.new-2.result)
+    (queue.held c.new-3.result) no_bank c.sensor_rows.ensures.silent c.new.ensures c.new-2.ensures
     c.new-3.ensures in (
       subst (Secure (line c.args.project)) (sym same) (secure-open _ no_bank),
-      (c.sensor-rows.ensures.known, (rw c.new-2.ensures refl, (rw c.new-2.ensures refl, tt))),
+      (c.sensor_rows.ensures.known, (rw c.new-2.ensures refl, (rw c.new-2.ensures refl, tt))),
     )
 
 pub returns : goal.returns
 returns c = record {
   project = refl;
   taking = refl;
-  state = λ m. fresh-state c.sensor-rows.result (queue.held c.new.result) (bounded.held c.new-2.result)
-      (queue.held c.new-3.result) m c.sensor-rows.ensures.silent c.new.ensures c.new-2.ensures
+  state = λ m. fresh-state c.sensor_rows.result (queue.held c.new.result) (bounded.held c.new-2.result)
+      (queue.held c.new-3.result) m c.sensor_rows.ensures.silent c.new.ensures c.new-2.ensures
       c.new-3.ensures;
 }

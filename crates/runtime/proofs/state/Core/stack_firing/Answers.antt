@@ -13,8 +13,8 @@ use Rattle.runtime.specs.Model.{state_over}
 use Rattle.runtime.proofs.States.{chosen, started-state, secure-started, stack-free, pushed}
 use Rattle.runtime.proofs.state.Core.stack_firing.Goals as goal
 
-pub invariant-of-self : goal.invariant-of-self
-invariant-of-self c =
+pub invariant_of-self : goal.invariant_of-self
+invariant_of-self c =
     let was = c.args.self.now in
     let a = c.args.firing.actor in
     let t = c.args.firing.timestamp in
@@ -24,13 +24,13 @@ invariant-of-self c =
     let test = c.push.ensures.answer ∙ lt-ltb _ 32 free in
     let on : held c.push.new.self ≡ held c.args.self.now.stack ++ record { actor = c.args.firing.actor; timestamp = c.args.firing.timestamp; inlets = c.inlets-inlets.result } ∷ [] =
     chosen _ _ _ _ c.push.ensures.after test in
-    let values = c.inlets-inlets.ensures ∙ ap (λ (es : List Event). four (λ i. value_for i (keep (taken a t) es))) c.as-slice.ensures in
-    let same = started-state was.clock was.taking was.sensors (queue.held was.events) (held was.stack) (queue.held was.outputs) no_rows a t _ _ _ c.drop-where.ensures on values in
+    let values = c.inlets-inlets.ensures ∙ ap (λ (es : List Event). four (λ i. value_for i (keep (taken a t) es))) c.as_slice.ensures in
+    let same = started-state was.clock was.taking was.sensors (queue.held was.events) (held was.stack) (queue.held was.outputs) no_rows a t _ _ _ c.drop_where.ensures on values in
     let top = pushed (held was.stack) _ _ on in
     let inlets = ap (aside to_inlet (plan was.project)) top in
     let actuators = ap (aside to_actuator (plan was.project)) top in
-    let more = c.leading-events.ensures.value in
-    let outs = c.leading-outputs.ensures.value in (
+    let more = c.leading_events.ensures.value in
+    let outs = c.leading_outputs.ensures.value in (
       subst (Secure l) (sym same) (secure-started l was.project.sound s a t c.requires.accepted c.requires.first was.secure),
       (was.known, (omega (arith, was.inlets), (omega (arith, was.actuators), tt))),
     )
@@ -46,9 +46,9 @@ returns c =
     let test = c.push.ensures.answer ∙ lt-ltb _ 32 free in
     let on : held c.push.new.self ≡ held c.args.self.now.stack ++ record { actor = c.args.firing.actor; timestamp = c.args.firing.timestamp; inlets = c.inlets-inlets.result } ∷ [] =
     chosen _ _ _ _ c.push.ensures.after test in
-    let values = c.inlets-inlets.ensures ∙ ap (λ (es : List Event). four (λ i. value_for i (keep (taken a t) es))) c.as-slice.ensures in
+    let values = c.inlets-inlets.ensures ∙ ap (λ (es : List Event). four (λ i. value_for i (keep (taken a t) es))) c.as_slice.ensures in
     record {
-      state = λ m. started-state was.clock was.taking was.sensors (queue.held was.events) (held was.stack) (queue.held was.outputs) m.rows a t _ _ _ c.drop-where.ensures on values;
+      state = λ m. started-state was.clock was.taking was.sensors (queue.held was.events) (held was.stack) (queue.held was.outputs) m.rows a t _ _ _ c.drop_where.ensures on values;
       project = refl;
       taking = refl;
     }

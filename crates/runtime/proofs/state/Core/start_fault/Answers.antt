@@ -8,10 +8,10 @@ use Rattle.runtime.specs.Model.{state_over}
 use Rattle.runtime.proofs.States.{first-in_time}
 use Rattle.runtime.proofs.state.Core.start_fault.Goals as goal
 
-pub order-fault-requires : goal.order-fault-requires
-order-fault-requires c =
+pub order_fault-requires : goal.order_fault-requires
+order_fault-requires c =
     let was = c.args.self.now in
-    let first = ap (λ (es : List Event). least event_time (keep (at_actor c.args.actor) es)) (sym c.as-slice.ensures) ∙ sym c.first-at.ensures ∙ c.in-Some.is in
+    let first = ap (λ (es : List Event). least event_time (keep (at_actor c.args.actor) es)) (sym c.as_slice.ensures) ∙ sym c.first_at.ensures ∙ c.in-Some.is in
     record {
       inside = omega (arith, ap length c.actors.ensures);
       in_time = first-in_time (line was.project) (state_over was no_rows) c.args.actor c.in-Some.timestamp first was.secure;

@@ -8,6 +8,6 @@ returns c =
     record {
       outlets = ap (λ (r : Reacted). r.outlets) c.fire.ensures.leaves;
       meaning =
-          holding-next c.args.self.now.states c.fire.new.states c.args.actor c.args.-timestamp c.args.inlets
+          holding-next c.args.self.now.states c.fire.new.states c.args.actor c.args._timestamp c.args.inlets
           c.fire.ensures.others c.fire.ensures.rule (ap (λ (r : Reacted). r.row) c.fire.ensures.leaves);
     }
