@@ -57,3 +57,6 @@ running_from_exact r x y d = one_answer r _ d (running_decides x y)
 
 pub firing_from_exact : (r : Bool) (x y : Firing) → Decides r (x ≡ y) → r ≡ firing_eq x y
 firing_from_exact r x y d = one_answer r _ d (firing_decides x y)
+
+pub firing_exact : (x y : Firing) (r : Bool) → r ≡ firing_eq x y → Decides r (x ≡ y)
+firing_exact x y r e = subst (λ b. Decides b (x ≡ y)) (sym e) (firing_decides x y)

@@ -2,7 +2,7 @@ use Rattle.std.proofs.Common.{refl, ◌∙◌}
 use Rattle.runtime.proofs.runtime.ClosedRuntime.advance.Goals as goal
 
 pub invariant_of-self : goal.invariant_of-self
-invariant_of-self g c = (c.advance.ensures.taking ∙ c.args.self.now.shut, tt)
+invariant_of-self g c = record { shut = c.advance.ensures.taking ∙ c.args.self.now.shut }
 
 pub returns : goal.returns
 returns g c = record {

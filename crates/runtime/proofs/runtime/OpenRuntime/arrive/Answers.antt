@@ -3,7 +3,7 @@ use Rattle.std.proofs.lemmas.Int.{to_z-of_z}
 use Rattle.runtime.proofs.runtime.OpenRuntime.arrive.Goals as goal
 
 pub invariant_of-self : goal.invariant_of-self
-invariant_of-self g c = (c.arrive.ensures.taking ∙ c.args.self.now.taking, tt)
+invariant_of-self g c = record { taking = c.arrive.ensures.taking ∙ c.args.self.now.taking }
 
 pub returns : goal.returns
 returns g c =

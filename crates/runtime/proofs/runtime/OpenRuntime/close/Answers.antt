@@ -4,7 +4,7 @@ use Rattle.runtime.proofs.States.{no_bank}
 use Rattle.runtime.proofs.runtime.OpenRuntime.close.Goals as goal
 
 pub invariant_of-result : goal.invariant_of-result
-invariant_of-result g c = (ap (λ (s : State). s.taking) (c.close.ensures.state no_bank), tt)
+invariant_of-result g c = record { shut = ap (λ (s : State). s.taking) (c.close.ensures.state no_bank) }
 
 pub returns : goal.returns
 returns g c = record {

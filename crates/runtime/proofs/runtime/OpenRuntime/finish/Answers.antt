@@ -2,4 +2,4 @@ use Rattle.std.proofs.Common.{◌∙◌}
 use Rattle.runtime.proofs.runtime.OpenRuntime.finish.Goals as goal
 
 pub invariant_of-self : goal.invariant_of-self
-invariant_of-self g c = (c.finish.ensures.taking ∙ c.args.self.now.taking, tt)
+invariant_of-self g c = record { taking = c.finish.ensures.taking ∙ c.args.self.now.taking }

@@ -27,7 +27,7 @@ invariant_of-self c =
     let l = line c.args.self.now.project in
     let safe = secure-arrived l was.project.sound (state_over was no_rows) x t c.args.value c.requires free was.secure in
     let same = arrived-state l was.clock was.taking was.sensors (held was.events) (bounded.held was.stack) (held was.outputs) no_rows x t c.args.value _ inside sent in
-    (subst (Secure l) (sym same) safe, ((λ k. same-lateness was.sensors x t inside k ∙ was.known k), (was.inlets, (was.actuators, tt))))
+    record { secure = subst (Secure l) (sym same) safe; known = (λ k. same-lateness was.sensors x t inside k ∙ was.known k); inlets = was.inlets; actuators = was.actuators }
 
 pub returns : goal.returns
 returns c =

@@ -3,4 +3,4 @@ use Rattle.runtime.proofs.state.Core.close.Goals as goal
 
 pub invariant_of-self : goal.invariant_of-self
 invariant_of-self c =
-    let was = c.args.self.now in (secure-close _ _ was.secure, (was.known, (was.inlets, (was.actuators, tt))))
+    let was = c.args.self.now in record { secure = secure-close _ _ was.secure; known = was.known; inlets = was.inlets; actuators = was.actuators }

@@ -11,10 +11,7 @@ pub invariant_of-result : goal.invariant_of-result
 invariant_of-result c =
     let same = fresh-state c.sensor_rows.result (queue.held c.new.result) (bounded.held c.new-2.result)
     (queue.held c.new-3.result) no_bank c.sensor_rows.ensures.silent c.new.ensures c.new-2.ensures
-    c.new-3.ensures in (
-      subst (Secure (line c.args.project)) (sym same) (secure-open _ no_bank),
-      (c.sensor_rows.ensures.known, (rw c.new-2.ensures refl, (rw c.new-2.ensures refl, tt))),
-    )
+    c.new-3.ensures in record { secure = subst (Secure (line c.args.project)) (sym same) (secure-open _ no_bank); known = c.sensor_rows.ensures.known; inlets = rw c.new-2.ensures refl; actuators = rw c.new-2.ensures refl }
 
 pub returns : goal.returns
 returns c = record {

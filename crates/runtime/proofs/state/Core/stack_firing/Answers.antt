@@ -30,10 +30,7 @@ invariant_of-self c =
     let inlets = ap (aside to_inlet (plan was.project)) top in
     let actuators = ap (aside to_actuator (plan was.project)) top in
     let more = c.leading_events.ensures.value in
-    let outs = c.leading_outputs.ensures.value in (
-      subst (Secure l) (sym same) (secure-started l was.project.sound s a t c.requires.accepted c.requires.first was.secure),
-      (was.known, (omega (arith, was.inlets), (omega (arith, was.actuators), tt))),
-    )
+    let outs = c.leading_outputs.ensures.value in record { secure = subst (Secure l) (sym same) (secure-started l was.project.sound s a t c.requires.accepted c.requires.first was.secure); known = was.known; inlets = omega (arith, was.inlets); actuators = omega (arith, was.actuators) }
 
 pub returns : goal.returns
 returns c =

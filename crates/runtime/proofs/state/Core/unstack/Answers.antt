@@ -42,10 +42,7 @@ invariant_of-self c =
     let events = c.leading_events.ensures.value in
     let outputs = c.leading_outputs.ensures.value in
     let inlets = aside-top (bounded.held was.stack) f c.requires to_inlet (plan was.project) _ c.pop.ensures.after in
-    let actuators = aside-top (bounded.held was.stack) f c.requires to_actuator (plan was.project) _ c.pop.ensures.after in (
-      secure-unstacked l was.clock was.taking was.sensors (held was.events) (bounded.held was.stack) (held was.outputs) f c.args.outlets c.shown-outlets.result c.requires c.shown-outlets.ensures was.project.sound was.secure _ _ _ c.pop.ensures.after c.send_all.ensures.events c.send_all.ensures.outputs,
-      (was.known, (omega (arith, was.inlets), (omega (arith, was.actuators), tt))),
-    )
+    let actuators = aside-top (bounded.held was.stack) f c.requires to_actuator (plan was.project) _ c.pop.ensures.after in record { secure = secure-unstacked l was.clock was.taking was.sensors (held was.events) (bounded.held was.stack) (held was.outputs) f c.args.outlets c.shown-outlets.result c.requires c.shown-outlets.ensures was.project.sound was.secure _ _ _ c.pop.ensures.after c.send_all.ensures.events c.send_all.ensures.outputs; known = was.known; inlets = omega (arith, was.inlets); actuators = omega (arith, was.actuators) }
 
 pub returns : goal.returns
 returns c =
