@@ -2,6 +2,7 @@
 ghost use Rattle.std.specs.Prelude.{◌≡◌, ◌<◌, Bool, Decides};
 ghost use Rattle.journal.specs.Told.{Kind, listed, arrivals, firings, outputs};
 ghost use Rattle.std.proofs.Common.{rules};
+ghost use Rattle.runs.proofs.Equal.{firing_exact};
 
 use runs::records::{Answer, Call, Firing, Output, Step};
 
@@ -61,7 +62,7 @@ impl Entry for Arrival {
 impl Entry for Firing {
     ghost kind = { firings };
 
-    ghost exact = { Prim.search rules };
+    ghost exact = { firing_exact };
 
     fn told_by(step: &Step) -> Option<Firing> {
         match step.answer {

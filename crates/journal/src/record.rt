@@ -1,7 +1,8 @@
 // The record of one sensor, actor or actuator, read from a journal.
 ghost use Rattle.std.specs.Prelude.{◌≡◌, ℕ, ◌<◌, true, length, Decides};
-ghost use Rattle.std.specs.Iterator.Adapters.{«iter_rest»};
-ghost use Rattle.journal.specs.Told.{«told_of», Numbered};
+ghost use Rattle.std.specs.Iterator.{at_most};
+ghost use Rattle.std.specs.Slice.Iter.{iter_rest};
+ghost use Rattle.journal.specs.Told.{told_of, Numbered};
 ghost use Rattle.journal.specs.Entries.{Begins, Gives};
 
 use super::entry::Entry;
@@ -33,9 +34,7 @@ impl<'a, E: Entry> Iterator for Entries<'a, E> {
 
     ghost next_gives = { Gives E.Entry.kind };
 
-    ghost ends = { λ _. Unit {0} };
-
-    ghost remaining = { λ s. length (iter_rest s.steps) };
+    ghost remaining = { λ s. at_most (length (iter_rest s.steps)) };
 
     fn next(&mut self) -> Option<E> {
         while let Some(step) = self.steps.next() {
