@@ -1,5 +1,5 @@
--- What `==` computes of two firings: field by field, and port by port. Each clause that cites it says beside it what that
--- decides.
+-- What `==` computes of two firings, field by field and port by port. That it tells whether they are the same is a clause
+-- of its own beside each that cites this.
 use Rattle.std.specs.Prelude.{Bool, ◌==◌}
 use Rattle.std.specs.Cmp.Lexicographic.{pointwise}
 use Rattle.std.specs.Option.{option_eq}

@@ -7,8 +7,8 @@ pub returns : goal.returns
 returns g c =
     let ran = c.eq.ensures.ran in
     let same = compared (λ x' y' r'. g.E.PartialEq.eq x' y' ≡ r')
-    (λ x' y' r' e. g.met.E.Entry.exact x' y' r' (sym e)) g.E.Entry.kind c.eq.result c.entries_of.result ran.0 ran.5 ran.6 ran.1 ran.2 ran.3 ran.4
-    ran.8 ran.9 ran.10 ran.11 in
+    (λ x' y' r' e. g.met.E.Entry.exact x' y' r' (sym e)) g.E.Entry.kind c.eq.result c.entries_of.result
+    ran.0 ran.5 ran.6 ran.1 ran.2 ran.3 ran.4 ran.8 ran.9 ran.10 ran.11 in
     let told = from-beginnings g.E.Entry.kind c.args.number c.eq.result c.args.first.now
     c.args.second.now c.entries_of.result ran.0 c.entries_of.ensures
     (subst (Begins c.args.number c.args.second.now) (sym ran.7) c.entries_of-2.ensures) same in

@@ -22,7 +22,7 @@ pub loop-i-preserved : goal.loop-i-preserved
 loop-i-preserved g c =
     let inside : c.loop-i.i < length c.args.calls.now = omega arith in
     let h = c.in-Some.ensures in
-    let k = c.in_ok-push.ensures.items in (
+    let k = c.in_ok-push-in-Some.ensures.items in (
       worked-step g.B.Bank.means _ _ _ _ _ _ _ _ c.loop-i.invariant.0 h.1 k,
       open_more c.args.calls.now c.loop-i.i no_call inside (vec_items c.loop-i.journal) _ _ _ h.0 k c.loop-i.invariant.1,
     )
