@@ -2,8 +2,8 @@
 use Rattle.std.proofs.Common.{◌≡◌, ℕ, ◌+◌, ◌-◌, ◌<◌, Bool, true, false, cond, eqb, ltb, List, length, ℤ, Option, sym, refl, ap, ◌∙◌, subst, arith}
 use Rattle.std.proofs.lemmas.Bool.{eqb-true, ltb-true, ltb-false, cond-true, cond-false, cond_both}
 use Rattle.banks.specs.Meaning.{Reacted, Meaning, Follows, at_open, after, Alike}
-use Rattle.banks.specs.Firing.{put, fired, next}
-use Rattle.banks.specs.Pairing.{split, paired}
+use Rattle.banks.specs.Firing.{fired, next}
+use Rattle.banks.specs.Pairing.{paired}
 use Rattle.banks.specs.Laws.{AlikeLaws}
 
 -- a reaction at one actor number

@@ -10,7 +10,6 @@ mod select;
 mod tests;
 
 pub use select::Select;
-
 use std::alloc::AllocError;
 
 // There was no room for one more record.

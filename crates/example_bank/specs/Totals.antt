@@ -1,5 +1,5 @@
 -- A bank of eight actors, each of which gives the total of what came in.
-use Rattle.std.specs.Prelude.{ℕ, cond, List, [], ◌∷◌, ℤ, pos, ◌+ℤ◌, Some, None, Option, nat_lt, slice_index_or}
+use Rattle.std.specs.Prelude.{cond, List, [], ◌∷◌, ℤ, pos, ◌+ℤ◌, Some, None, Option, nat_lt, slice_index_or}
 use Rattle.std.specs.Int.{saturate_to_bits}
 use Rattle.banks.specs.Meaning.{Reacted, Meaning}
 use Rattle.banks.specs.Silence.{nothing}

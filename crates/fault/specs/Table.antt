@@ -11,7 +11,6 @@ use Rattle.fault.specs.declared.GraphCause.TheVariants.{Unwired, CutOff, ZeroLoo
 use Rattle.fault.specs.declared.RunCause.{RunCause}
 use Rattle.fault.specs.declared.RunCause.TheVariants.{NoSuch, Window, Stale, Full, Back, Horizon, Due, Nothing, Early, Behind, NotSooner}
 use Rattle.fault.specs.declared.Fault.{Fault}
-use Rattle.fault.specs.declared.Fault
 
 -- one line of the table; name and words are ASCII texts
 pub record Refusal : Type 0 where

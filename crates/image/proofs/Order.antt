@@ -5,7 +5,6 @@ use Rattle.fault.specs.declared.BytesCause.TheVariants.{Head, Count, Length}
 use Rattle.fault.specs.declared.RecordsCause.TheVariants.{Field, Order, Sink}
 use Rattle.fault.specs.declared.GraphCause.TheVariants.{Unwired, CutOff, ZeroLoop}
 use Rattle.fault.specs.declared.Fault.{Fault}
-use Rattle.fault.specs.declared.Fault
 use Rattle.line.specs.Rules.{longest}
 use Rattle.image.specs.Bytes.{val, between}
 use Rattle.image.specs.Fields.{BadSensorField}

@@ -1,7 +1,6 @@
 -- What writing an image answers, and what it leaves in the buffer.
 use Rattle.std.specs.Prelude.{◌≡◌, ℕ, ◌<◌, ◌≤◌, cond, List, length, Ok, Err, Result, MatchResult, nat_le}
 use Rattle.fault.specs.declared.Fault.{Fault}
-use Rattle.fault.specs.declared.Fault
 use Rattle.fault.specs.declared.RunCause.TheVariants.{Full}
 use Rattle.line.specs.Plan.{Plan}
 use Rattle.image.specs.Bytes.{put}

@@ -1,9 +1,7 @@
 -- Paths over the channels of a plan, and the sums of delays along them.
 use Rattle.std.specs.Prelude.{◌≡◌, ℕ, ◌+◌, ◌<◌, ◌≤◌, ◌⊎◌, length, ℤ, pos, ◌-ℤ◌, ◌≤ℤ◌, Option, MatchOption}
 use Rattle.line.specs.Plan.{Plan, Leads, delay, lateness}
-use Rattle.line.specs.declared.parts.Source.{Source}
 use Rattle.line.specs.declared.parts.Source.TheVariants.{Sensor, Outlet}
-use Rattle.line.specs.declared.parts.Sink.{Sink}
 use Rattle.line.specs.declared.parts.Sink.TheVariants.{Inlet, Actuator}
 
 -- a path of one or more channels from actor b to actor a, and the sum of the delays of the outlets that it takes:

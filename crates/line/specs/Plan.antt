@@ -1,8 +1,7 @@
 -- What a project says: sensors, actors, actuators and channels.
-use Rattle.std.specs.Prelude.{ℕ, Bool, false, ◌&&◌, List, length, ℤ, pos, Option, ◌==◌, slice_index, slice_index_or}
+use Rattle.std.specs.Prelude.{ℕ, Bool, false, ◌&&◌, List, pos, Option, ◌==◌, slice_index, slice_index_or}
 use Rattle.line.specs.Lists.{In, first}
-use Rattle.line.specs.declared.parts.Kind.{Kind}
-use Rattle.line.specs.declared.parts.Kind.TheVariants.{Pass, Count, Gate, Toggle, Scale, Sort, Other}
+use Rattle.line.specs.declared.parts.Kind.TheVariants.{Pass}
 use Rattle.line.specs.declared.parts.Actor.{Actor}
 use Rattle.line.specs.declared.parts.Source.{Source}
 use Rattle.line.specs.declared.parts.Source.TheVariants.{Sensor, Outlet}

@@ -1,7 +1,7 @@
 -- The rules that every project keeps.
-use Rattle.std.specs.Prelude.{◌≡◌, ℕ, ◌+◌, ◌*◌, ◌<◌, ◌≤◌, ◌⊎◌, List, length, ℤ, pos, negsuc, ◌≤ℤ◌, slice_index_or}
+use Rattle.std.specs.Prelude.{◌≡◌, ℕ, ◌+◌, ◌*◌, ◌<◌, ◌≤◌, ◌⊎◌, length, ℤ, pos, negsuc, ◌≤ℤ◌, slice_index_or}
 use Rattle.line.specs.Lists.{In}
-use Rattle.line.specs.Plan.{Plan, Leads, delay, lateness, actor_of}
+use Rattle.line.specs.Plan.{Plan, Leads, lateness, actor_of}
 use Rattle.line.specs.Paths.{Path, Exit, From}
 use Rattle.line.specs.declared.parts.Kind.{Kind}
 use Rattle.line.specs.declared.parts.Kind.TheVariants.{Pass, Count, Gate, Toggle, Scale, Sort, Other}

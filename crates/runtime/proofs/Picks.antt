@@ -4,7 +4,7 @@ use Rattle.std.proofs.lemmas.Bool.{cases_eq, cases_lt, ltb-true, not-false}
 use Rattle.std.proofs.lemmas.Bool.Decides.{nat_tests}
 use Rattle.fault.specs.declared.Fault.{Fault}
 use Rattle.line.specs.Times.{Line}
-use Rattle.runs.specs.Calls.{start_checks, start_verdict, time_at, Startable, Ahead, First, Picked}
+use Rattle.runs.specs.Calls.{start_checks, start_verdict, time_at, Startable, First, Picked}
 use Rattle.runs.specs.State.{State, deadline_at}
 use Rattle.runs.proofs.Accepted.{none-some, passes, unmet}
 use Rattle.runtime.specs.Keys.{Key, before, lesser, unless, key_of}

@@ -1,5 +1,5 @@
 -- States that are equal, and what the invariant of a runtime gives.
-use Rattle.std.proofs.Common.{◌≡◌, ℕ, ◌+◌, ◌<◌, ◌≤◌, Bool, true, false, cond, not, ltb, List, [], ◌∷◌, ◌++◌, length, set, ℤ, Some, None, Option, sym, refl, ap, ◌∙◌, subst, arith}
+use Rattle.std.proofs.Common.{◌≡◌, ℕ, ◌+◌, ◌<◌, ◌≤◌, Bool, true, false, cond, not, ltb, List, [], ◌∷◌, ◌++◌, length, set, ℤ, Some, None, Option, refl, ap, ◌∙◌, subst, arith}
 use mathlib.Core.Path.{fun_ext}
 use Rattle.std.proofs.lemmas.List.{reverse-append}
 use mathlib.Core.Logic.{∥∥₁_map, ∥∥₁_elim, ∥∥₁_prop}
@@ -17,13 +17,13 @@ use Rattle.fault.specs.declared.Fault.{Fault}
 use Rattle.runs.specs.declared.records.Answer.{Answer}
 use Rattle.runs.specs.declared.records.Answer.TheVariants.{Refused}
 use Rattle.runs.proofs.Safe.{safe-advance, safe-arrive, safe-start}
-use Rattle.runs.proofs.Accepted.{Advances, none_kept, arrives, first-event, accepted as start-accepted}
+use Rattle.runs.proofs.Accepted.{none_kept, arrives, first-event, accepted as start-accepted}
 use Rattle.runs.specs.Safe.{Secure}
 use Rattle.banks.specs.Meaning.{Meaning}
 use Rattle.runs.specs.declared.records.Event.{Event}
 use Rattle.runs.specs.declared.records.Running.{Running}
 use Rattle.runs.specs.declared.records.Output.{Output}
-use Rattle.runs.proofs.Secure.{secure-open, start-room}
+use Rattle.runs.proofs.Secure.{start-room}
 use Rattle.runtime.specs.declared.rows.SensorRow.{SensorRow}
 use Rattle.runtime.specs.Meant.{state_of, top_first, last_at, lateness_at, no_rows}
 use Rattle.runtime.proofs.Sensors.{set_last}

@@ -1,5 +1,5 @@
 -- The top of the stack.
-use Rattle.std.proofs.Common.{◌≡◌, ℕ, zero, ◌+◌, ◌-◌, ◌<◌, ◌≤◌, leb, List, [], ◌∷◌, reverse, length, get_or, Some, None, sym, refl, ap, ◌∙◌, inl, arith}
+use Rattle.std.proofs.Common.{◌≡◌, ℕ, ◌-◌, ◌<◌, ◌≤◌, leb, List, [], ◌∷◌, reverse, length, get_or, Some, None, sym, refl, ap, ◌∙◌, inl, arith}
 use mathlib.Core.Logic.{∥∥₁_elim}
 use native.Mathlib.Bridge.{le_prop}
 use lib.ListN.{length-reverse}
@@ -11,7 +11,7 @@ use Rattle.line.specs.Lists.{In}
 use Rattle.line.specs.Times.{Line}
 use Rattle.runs.specs.Calls.{horizon, not_sooner, when}
 use Rattle.runs.specs.Safe.{Secure}
-use Rattle.runs.specs.State.{State, deadline_of, longest_delay}
+use Rattle.runs.specs.State.{State, deadline_of}
 use Rattle.runs.specs.declared.records.Running.{Running}
 use Rattle.runtime.specs.Meant.{top_first}
 

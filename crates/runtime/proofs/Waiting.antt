@@ -1,19 +1,18 @@
 -- Lists in order: their first has the least rank.
-use Rattle.std.proofs.Common.{◌≡◌, ℕ, ◌<◌, ◌≤◌, min, Bool, true, false, cond, ltb, List, [], ◌∷◌, Some, None, Option, sym, refl, ap, ◌∙◌, subst, inl, inr, arith}
+use Rattle.std.proofs.Common.{◌≡◌, ℕ, ◌<◌, ◌≤◌, Bool, false, ltb, List, [], ◌∷◌, Some, None, refl, ap, ◌∙◌, inl, inr, arith}
 use mathlib.Core.Logic.{∥∥₁_elim}
 use native.Mathlib.Bridge.{le_prop}
 use Rattle.std.specs.List.{slice_get, remove}
-use Rattle.std.proofs.lemmas.Bool.{lt-ltb, le-ltb, cases_lt}
+use Rattle.std.proofs.lemmas.Bool.{lt-ltb, le-ltb}
 use Rattle.line.specs.Times.{Line}
 use Rattle.runs.specs.Lists.{Each, Without, here, keep, least, lower}
 use Rattle.runs.specs.State.{State, output_time}
 use Rattle.runs.specs.Calls.{due_before, Delivers}
-use Rattle.runs.specs.Safe.{Safe, Secure}
+use Rattle.runs.specs.Safe.{Secure}
 use Rattle.runs.specs.declared.records.Output.{Output}
 use Rattle.runs.specs.declared.records.Delivered.{Delivered}
 use Rattle.runtime.specs.Answers.{handing}
 use Rattle.runs.proofs.Lists.{in-keep, each-cons}
-use Rattle.line.specs.Lists.{In}
 
 -- n is at most the least, and at most f x
 le-lower : {A : Type 0} (f : A → ℕ) (n m : ℕ) (xs : List A) → n ≤ m → Each (λ (x : A). n ≤ f x) xs →

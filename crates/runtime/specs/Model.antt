@@ -2,7 +2,6 @@
 use Rattle.std.specs.Prelude.{◌≡◌, ℕ, true, List, ◌∷◌, ℤ, Option}
 use Rattle.bounded.specs.Held as bounded
 use Rattle.queue.specs.Held as queue
-use Rattle.line.specs.Times.{Line}
 use Rattle.project.specs.Project.{line, plan}
 use Rattle.project.specs.declared.project.Project.{Project}
 use Rattle.banks.specs.Meaning.{Meaning}

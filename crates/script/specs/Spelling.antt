@@ -5,7 +5,6 @@ use Rattle.runs.specs.declared.records.Call.TheVariants.{Arrive, Advance, Pick, 
 use Rattle.runs.specs.declared.records.Call.TheVariants.{Close}
 use Rattle.script.specs.Decimals.{Number, Signed}
 use Rattle.script.specs.declared.Line.{Line}
-use Rattle.script.specs.declared.Line.TheVariants as Line
 
 -- the arguments of an arrival, one space (code 32) apart
 pub record Arrival (bs : List ℕ) (sensor timestamp : ℕ) (value : ℤ) : Type 0 where

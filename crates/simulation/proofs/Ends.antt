@@ -1,12 +1,12 @@
 -- The ends of runs.
-use Rattle.std.proofs.Common.{◌≡◌, ℕ, Bool, true, false, not, ◌&&◌, eqb, List, [], ◌∷◌, ◌++◌, length, IfOk, Ok, Err, vec_items, Decides, Result, sym, refl, ap, ◌∙◌, subst, arith}
+use Rattle.std.proofs.Common.{◌≡◌, Bool, true, not, ◌&&◌, eqb, List, [], ◌∷◌, ◌++◌, length, IfOk, Ok, Err, vec_items, Decides, Result, sym, refl, ap, ◌∙◌, subst, arith}
 use Rattle.std.proofs.lemmas.Bool.{and_from, and_parts, eq-eqb, eqb-true, not-true}
 use Rattle.banks.specs.Meaning.{Meaning}
 use Rattle.project.specs.Project.{line}
 use Rattle.project.specs.declared.project.Project.{Project}
-use Rattle.runs.specs.Calls.{Outcome, status}
+use Rattle.runs.specs.Calls.{status}
 use Rattle.runs.specs.Runs.{Complete, Journal, Runs, opened}
-use Rattle.runs.specs.State.{State, fresh}
+use Rattle.runs.specs.State.{State}
 use Rattle.runs.specs.declared.records.Call.{Call}
 use Rattle.runs.specs.declared.records.Call.TheVariants.{Report, Close}
 use Rattle.runs.specs.declared.records.Answer.TheVariants.{Told, Done}

@@ -1,9 +1,9 @@
 -- Journals that go on being runs.
-use Rattle.std.proofs.Common.{◌≡◌, ℕ, ◌+◌, ◌-◌, ◌<◌, Bool, true, false, cond, not, List, [], ◌∷◌, ◌++◌, length, get_or, take, drop, pos, sym, refl, ap, ◌∙◌, subst, ap₂, append_assoc, arith, length-drop}
+use Rattle.std.proofs.Common.{◌≡◌, ℕ, ◌+◌, ◌-◌, ◌<◌, Bool, true, false, cond, not, List, [], ◌∷◌, ◌++◌, length, get_or, take, drop, pos, sym, refl, ap, ◌∙◌, subst, append_assoc, arith, length-drop}
 use Rattle.std.proofs.lemmas.List.{drop_more, map-append, take_all}
 use Rattle.line.specs.Plan.{Plan}
 use Rattle.line.specs.Times.{Line}
-use Rattle.banks.specs.Meaning.{Meaning, Reaction}
+use Rattle.banks.specs.Meaning.{Meaning}
 use Rattle.project.specs.Project.{line}
 use Rattle.project.specs.declared.project.Project.{Project}
 use Rattle.runs.specs.Calls.{Outcome, finish_after, finish_answer}

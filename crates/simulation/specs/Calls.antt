@@ -1,5 +1,5 @@
 -- Which calls of a list are performed.
-use Rattle.std.specs.Prelude.{ℕ, Bool, true, false, cond, not, List, [], ◌∷◌}
+use Rattle.std.specs.Prelude.{Bool, true, false, cond, not, List, [], ◌∷◌}
 use Rattle.runs.specs.Lists.{keep}
 use Rattle.runs.specs.declared.records.Call.{Call}
 use Rattle.runs.specs.declared.records.Call.TheVariants.{Arrive, Advance, Pick, Start, Finish, Deliver, Report}

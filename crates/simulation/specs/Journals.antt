@@ -1,6 +1,5 @@
 -- What it is to perform calls and keep their journal.
-use Rattle.std.specs.Prelude.{◌≡◌, ℕ, List, map}
-use Rattle.line.specs.Times.{Line}
+use Rattle.std.specs.Prelude.{◌≡◌, List, map}
 use Rattle.banks.specs.Meaning.{Meaning}
 use Rattle.project.specs.Project.{line}
 use Rattle.runs.specs.Runs.{Journal, Runs}

@@ -1,5 +1,5 @@
 -- What performing a list of calls hands back.
-use Rattle.std.specs.Prelude.{◌≡◌, ℕ, not, List, IfOk, vec_items}
+use Rattle.std.specs.Prelude.{◌≡◌, not, List, IfOk, vec_items}
 use Rattle.line.specs.Times.{Line}
 use Rattle.banks.specs.Meaning.{Meaning}
 use Rattle.runs.specs.Calls.{status}

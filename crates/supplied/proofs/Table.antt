@@ -1,15 +1,14 @@
 -- What the table of kinds comes to, kind by kind.
-use Rattle.std.proofs.Common.{◌≡◌, ℕ, ◌+◌, ◌≤◌, min, Bool, true, false, cond, List, [], ◌∷◌, length, ℤ, pos, ◌+ℤ◌, Some, None, Option, sym, refl, ap, ◌∙◌, subst, arith}
+use Rattle.std.proofs.Common.{◌≡◌, ℕ, ◌+◌, ◌≤◌, min, Bool, true, false, cond, List, [], ◌∷◌, ℤ, pos, ◌+ℤ◌, Some, None, Option, refl, ap, ◌∙◌, arith}
 use Rattle.std.specs.Int.{int_min}
 use Rattle.std.proofs.lemmas.Bool.Decides.{nat_tests}
-use Rattle.std.proofs.lemmas.Bool.{cond_both}
 use Rattle.banks.specs.Meaning.{Reacted, Follows, at_open, after}
 use Rattle.banks.specs.Silence.{nothing}
 use Rattle.line.specs.declared.parts.Kind.{Kind}
 use Rattle.line.specs.declared.parts.Kind.TheVariants.{Pass, Count, Gate, Toggle, Scale, Sort, Other}
 use Rattle.line.specs.declared.parts.Actor.{Actor}
 use Rattle.supplied.specs.Numbers.{is_zero, greatest, scaled}
-use Rattle.supplied.specs.Kinds.{number, inlet, leaves, on_all, counted, ruled, gated, toggled, scales, reacts, starts}
+use Rattle.supplied.specs.Kinds.{number, inlet, leaves, on_all, counted, ruled, toggled, scales, reacts, starts}
 use Rattle.supplied.specs.Project.{numbered, supplied}
 use Rattle.supplied.specs.Laws.{Broad, Possible, TableLaws}
 

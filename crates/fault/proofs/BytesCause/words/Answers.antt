@@ -1,4 +1,4 @@
-use Rattle.std.proofs.Common.{◌≡◌, sym, ap}
+use Rattle.std.proofs.Common.{sym, ap}
 use Rattle.fault.specs.Table.{of_bytes}
 use Rattle.fault.proofs.BytesCause.words.Goals as goal
 

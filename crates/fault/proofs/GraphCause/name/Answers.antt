@@ -1,4 +1,4 @@
-use Rattle.std.proofs.Common.{◌≡◌, sym, ap}
+use Rattle.std.proofs.Common.{sym, ap}
 use Rattle.fault.specs.Table.{of_graph}
 use Rattle.fault.proofs.GraphCause.name.Goals as goal
 

@@ -1,4 +1,4 @@
-use Rattle.std.proofs.Common.{◌≡◌, sym, ap}
+use Rattle.std.proofs.Common.{sym, ap}
 use Rattle.fault.specs.Table.{of_records}
 use Rattle.fault.proofs.RecordsCause.words.Goals as goal
 

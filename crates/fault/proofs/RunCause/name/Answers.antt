@@ -1,4 +1,4 @@
-use Rattle.std.proofs.Common.{◌≡◌, sym, ap}
+use Rattle.std.proofs.Common.{sym, ap}
 use Rattle.fault.specs.Table.{of_run}
 use Rattle.fault.proofs.RunCause.name.Goals as goal
 

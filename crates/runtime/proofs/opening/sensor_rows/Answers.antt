@@ -1,10 +1,10 @@
-use Rattle.std.proofs.Common.{◌≡◌, ℕ, ◌<◌, ◌≤◌, length, None, unwrap_or, sym, refl, ap, ◌∙◌, inl, inr, arith, length-set}
+use Rattle.std.proofs.Common.{◌≡◌, ◌<◌, ◌≤◌, length, None, unwrap_or, sym, ap, ◌∙◌, inl, inr, arith, length-set}
 use Rattle.std.proofs.lemmas.List.{get_or_past}
 use Rattle.std.proofs.lemmas.Bool.{eq-eqb, ne_eqb, cases_eq, cases_lt}
 use Rattle.bounded.proofs.Laws.{held_fits}
 use Rattle.line.specs.Plan.{lateness}
 use Rattle.project.specs.Project.{plan}
-use Rattle.runtime.specs.Meant.{no_sensor, lateness_at, last_at}
+use Rattle.runtime.specs.Meant.{no_sensor}
 use Rattle.runtime.specs.declared.rows.SensorRow.{SensorRow}
 use Rattle.runtime.proofs.Sensors.{nth-or, set-lateness, set_last}
 use Rattle.runtime.proofs.opening.sensor_rows.Goals as goal

@@ -1,6 +1,4 @@
-use Rattle.std.proofs.Common.{vec_items, sym, subst}
-use Rattle.runs.specs.Runs.{Journal}
-use Rattle.simulation.specs.Compared.{Compares}
+use Rattle.std.proofs.Common.{sym}
 use Rattle.simulation.proofs.Compared.{compares}
 use Rattle.simulation.proofs.comparing.compare.Goals as goal
 

@@ -1,4 +1,4 @@
-use Rattle.std.proofs.Common.{◌≡◌, List, ◌∷◌, ◌++◌, vec_items, ap, ◌∙◌}
+use Rattle.std.proofs.Common.{List, ◌∷◌, ◌++◌, vec_items, ap, ◌∙◌}
 use Rattle.runs.specs.Runs.{Journal}
 use Rattle.runs.specs.declared.records.Call.{Call}
 use Rattle.runs.specs.declared.records.Call.TheVariants.{Close}

@@ -1,4 +1,4 @@
-use Rattle.std.proofs.Common.{◌≡◌, sym, refl, ap, subst}
+use Rattle.std.proofs.Common.{refl}
 use Rattle.runtime.proofs.runtime.OpenRuntime.open.Goals as goal
 
 pub returns : goal.returns

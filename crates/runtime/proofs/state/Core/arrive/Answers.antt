@@ -1,4 +1,4 @@
-use Rattle.std.proofs.Common.{◌≡◌, ◌<◌, List, length, Some, sym, refl, ap, ◌∙◌, subst, ap₂, lit<, w32, to_z, of_z, rules}
+use Rattle.std.proofs.Common.{◌<◌, List, length, Some, sym, refl, ap, ◌∙◌, subst, ap₂, lit<, w32, to_z, of_z, rules}
 use Rattle.std.proofs.lemmas.Int.{to_z-of_z}
 use Rattle.runs.specs.Lists.{put_all}
 use Rattle.runs.specs.State.{event_at, event_time, arrived}

@@ -1,7 +1,6 @@
-use Rattle.std.proofs.Common.{◌≡◌, ◌<◌, List, length, get_or, Some, sym, ap, ◌∙◌, subst}
+use Rattle.std.proofs.Common.{List, get_or, Some, sym, ap, ◌∙◌}
 use Rattle.std.proofs.lemmas.List.{take_all}
-use Rattle.queue.specs.Held.{held}
-use Rattle.project.specs.Project.{line, plan}
+use Rattle.project.specs.Project.{line}
 use Rattle.project.proofs.Wired.{in-at}
 use Rattle.runs.specs.Calls.{could_reach, event_actor}
 use Rattle.runs.specs.Lists.{keep, least, lower}

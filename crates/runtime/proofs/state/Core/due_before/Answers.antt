@@ -1,4 +1,4 @@
-use Rattle.std.proofs.Common.{sym, ◌∙◌, arith}
+use Rattle.std.proofs.Common.{sym, ◌∙◌}
 use Rattle.runtime.proofs.Waiting.{outputs-first, due-none, due-first, due-later}
 use Rattle.runtime.proofs.state.Core.due_before.Goals as goal
 

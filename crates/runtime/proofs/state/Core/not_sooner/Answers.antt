@@ -1,4 +1,4 @@
-use Rattle.std.proofs.Common.{◌≡◌, leb, sym, ap, ◌∙◌}
+use Rattle.std.proofs.Common.{leb, sym, ap, ◌∙◌}
 use Rattle.bounded.specs.Held.{held}
 use Rattle.project.specs.Project.{line}
 use Rattle.runs.specs.Calls.{when}

@@ -8,7 +8,7 @@ use Rattle.runs.specs.Lists.{keep}
 use Rattle.runs.specs.Safe.{Secure}
 use Rattle.runs.specs.State.{aside, four, taken, to_actuator, to_inlet, value_for}
 use Rattle.runs.specs.declared.records.Event.{Event}
-use Rattle.runtime.specs.Meant.{no_rows, top_first}
+use Rattle.runtime.specs.Meant.{no_rows}
 use Rattle.runtime.specs.Model.{state_over}
 use Rattle.runtime.proofs.States.{chosen, started-state, secure-started, stack-free, pushed}
 use Rattle.runtime.proofs.state.Core.stack_firing.Goals as goal

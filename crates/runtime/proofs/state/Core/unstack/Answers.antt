@@ -1,4 +1,4 @@
-use Rattle.std.proofs.Common.{◌≡◌, ◌∷◌, sym, refl, ap, ◌∙◌, arith}
+use Rattle.std.proofs.Common.{◌∷◌, sym, refl, ap, ◌∙◌, arith}
 use Rattle.bounded.specs.Held as bounded
 use Rattle.queue.specs.Held.{held}
 use Rattle.project.specs.Project.{line, plan}

@@ -1,4 +1,4 @@
-use Rattle.std.proofs.Common.{◌≡◌, Bool, List, [], length, get_or, Some, sym, ap, ◌∙◌, w32, SFits, rules}
+use Rattle.std.proofs.Common.{Bool, List, get_or, Some, sym, ap, ◌∙◌, w32, SFits, rules}
 use Rattle.std.proofs.lemmas.List.{drop_all}
 use Rattle.std.proofs.lemmas.Int.{to_z-of_z}
 use Rattle.runs.specs.Lists.{keep}
