@@ -1,4 +1,14 @@
+pub mod Firsts
 pub mod Wired
+pub mod Nths
+pub mod Found
+pub mod Closing
+pub mod Edges
+pub mod Routes
+pub mod Slacks
+pub mod Delays
+pub mod Firstly
+pub mod Sounds
 pub mod Reading
 pub mod Freshly
 pub mod Sizes

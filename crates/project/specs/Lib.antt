@@ -1,3 +1,8 @@
+pub mod Search
+pub mod Tables
+pub mod Waits
+pub mod Flawed
+pub mod Lines
 pub mod Project
 pub mod Fresh
 pub mod Lookups

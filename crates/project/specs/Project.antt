@@ -7,7 +7,7 @@ use Rattle.image.specs.Refusals.{Faulty, First}
 use Rattle.line.specs.Plan.{Plan}
 use Rattle.line.specs.Rules.{Lawful}
 use Rattle.line.specs.Times.{Line}
-use Rattle.drafts.specs.Lines.{line_of}
+use Rattle.project.specs.Lines.{line_of}
 use Rattle.project.specs.declared.project.Project.{Project}
 
 -- what a project says
@@ -16,7 +16,7 @@ plan p = plan_of p.draft
 
 -- the same, with its distances, deadlines and waits
 abbrev pub line : Project → Line
-line p = line_of p.draft p.times
+line p = line_of p.draft p.far p.waits
 
 -- bs is read into p: p is the project whose image bs is, and no refusal holds of bs
 pub record Accepted (bs : List ℕ) (p : Project) : Type 0 where

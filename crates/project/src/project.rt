@@ -1,8 +1,8 @@
 ghost use Rattle.line.specs.Times.{Sound};
-ghost use Rattle.drafts.specs.Lines.{line_of};
+ghost use Rattle.project.specs.Lines.{line_of};
 
-use drafts::times::Times;
 use image::draft::Draft;
+use paths::Span;
 
 mod fresh;
 mod lookups;
@@ -14,6 +14,7 @@ mod writing;
 #[derive(Clone, Copy)]
 pub struct Project {
     draft: Draft,
-    times: Times,
-    ghost sound: { ∥ Sound (line_of draft times) ∥₁ },
+    far: [Span; 1089],
+    waits: [i64; 32],
+    ghost sound: { ∥ Sound (line_of draft far waits) ∥₁ },
 }

@@ -8,8 +8,8 @@ ghost use Rattle.project.specs.Lookups.{distance_at, deadline_at, wait_at};
 ghost use Rattle.project.specs.Project.{plan, line};
 
 use super::Project;
-use drafts::outlets::delay_at;
-use drafts::wiring::{end_of, origin_of};
+use crate::tables::{EXIT, delay_at, span_between};
+use crate::wiring::{end_of, origin_of};
 use line::parts::{Actor, Channel, Sink, Source};
 
 impl Project {
@@ -100,7 +100,7 @@ impl Project {
         if from >= count || to >= count {
             return None;
         }
-        self.times.distance(from as u8, to as u8)
+        span_between(&self.far, from as u8, to as u8)
     }
 
     // The least sum of delays on a path from an actor to an actuator.
@@ -111,7 +111,7 @@ impl Project {
         if actor >= self.draft.actors.len() {
             return None;
         }
-        Some(self.times.deadline(actor as u8))
+        Some(span_between(&self.far, actor as u8, EXIT).unwrap_or(0))
     }
 
     // The greatest difference of a sensor's lateness and its distance to an actor.
@@ -122,6 +122,6 @@ impl Project {
         if actor >= self.draft.actors.len() {
             return None;
         }
-        Some(self.times.wait(actor))
+        Some(self.waits[actor])
     }
 }

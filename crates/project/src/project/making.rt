@@ -1,11 +1,12 @@
 ghost use Rattle.std.specs.Prelude.{◌≡◌, MatchResult};
 ghost use Rattle.image.specs.Drafts.{plan_of};
 ghost use Rattle.line.specs.Rules.{Sized, Ranged, Lawful};
-ghost use Rattle.graph.specs.Flawed.{FirstFlaw};
+ghost use Rattle.project.specs.Flawed.{FirstFlaw};
 
 use super::Project;
+use crate::checks::check;
+use crate::waits::waits;
 use fault::Fault;
-use graph::times_of;
 use image::draft::Draft;
 
 impl Project {
@@ -15,10 +16,12 @@ impl Project {
         requires ranged { Ranged (plan_of draft.now) }
         ensures { MatchResult result (λ p. (p.draft ≡ draft.now) × Lawful (plan_of draft.now)) (FirstFlaw (plan_of draft.now)) }
     {
-        let times = times_of(draft)?;
+        let far = check(draft)?;
+        let waits = waits(draft, &far);
         Ok(Project {
             draft: *draft,
-            times,
+            far,
+            waits,
         })
     }
 }

@@ -1,4 +1,4 @@
-use Rattle.std.proofs.Common.{◌≡◌, true, cond, ltb, length, None, sym, ap, ◌∙◌, subst, arith}
+use Rattle.std.proofs.Common.{◌≡◌, true, cond, ◌&&◌, ltb, length, None, sym, ap, ◌∙◌, subst, arith}
 use mathlib.Core.Logic.{∥∥₁_map}
 use Rattle.std.proofs.lemmas.Bool.{lt-ltb, and_from}
 use Rattle.line.specs.Paths.{Distance}
@@ -13,6 +13,6 @@ returns c =
     let from : ltb c.args.from (length (plan c.args.self.now).actors) ≡ true = lt-ltb _ _ (omega arith) in
     let to : ltb c.args.to (length (plan c.args.self.now).actors) ≡ true = lt-ltb _ _ (omega arith) in
     record {
-      value = c.distance.ensures ∙ sym (ap (λ t. cond t ((line c.args.self.now).distance b a) None) (and_from (ltb b n) (ltb a n) from to));
-      least = λ hb ha. ∥∥₁_map c.args.self.now.sound (λ s. subst (Distance (plan c.args.self.now) b a) (sym c.distance.ensures) (s.distances b a hb ha));
+      value = c.span_between.ensures ∙ sym (ap (λ t. cond t ((line c.args.self.now).distance b a) None) (and_from (ltb b n) (ltb a n) from to));
+      least = λ hb ha. ∥∥₁_map c.args.self.now.sound (λ s. subst (Distance (plan c.args.self.now) b a) (sym c.span_between.ensures) (s.distances b a hb ha));
     }

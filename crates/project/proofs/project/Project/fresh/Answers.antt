@@ -1,7 +1,7 @@
-use Rattle.std.proofs.Common.{sym, subst}
+use Rattle.std.proofs.Common.{◌≡◌, sym, subst}
 use Rattle.line.specs.Plan.{Plan}
 use Rattle.line.specs.Rules.{Sized, Ranged}
-use Rattle.graph.specs.Flawed.{FirstFlaw}
+use Rattle.project.specs.Flawed.{FirstFlaw}
 use Rattle.project.proofs.Freshly.{fresh-sized, fresh-ranged, fresh-lawful}
 use Rattle.project.proofs.Reading.{no-flaw}
 use Rattle.project.proofs.project.Project.fresh.Goals as goal

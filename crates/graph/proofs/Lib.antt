@@ -1,9 +1,0 @@
-pub mod Wired
-pub mod Found
-pub mod Closing
-pub mod Edges
-pub mod Routes
-pub mod Slacks
-pub mod Delays
-pub mod Firstly
-pub mod Sounds

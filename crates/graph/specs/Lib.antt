@@ -1,4 +1,0 @@
-pub mod Search
-pub mod Tables
-pub mod Waits
-pub mod Flawed

@@ -1,0 +1,17 @@
+use Rattle.std.proofs.Common.{◌≡◌, arith, lit≤, rules}
+use Rattle.image.specs.Drafts.{plan_of}
+use Rattle.project.proofs.Closing.{ok-part}
+use Rattle.project.proofs.Routes.{short, distance_is, exit-is}
+use Rattle.project.proofs.tables.far.Goals as goal
+
+pub returns : goal.returns
+returns c =
+    let p = plan_of c.args.draft.now in
+    let t = c.edges-table.result in
+    let l = c.edges-table.ensures in
+    let D = ok-part c.distances.result _ _ (c.distances.ensures.square.1 (search rules)) c.distances.ensures.closed in
+    record {
+      distances = distance_is p c.requires.few c.requires.ranged t l _ D;
+      exits = exit-is p c.requires.few c.requires.ranged t l _ D;
+      small = λ b a d hb ha e. D.small (lit≤ tt) (short p c.requires.few c.requires.ranged t l) b a d hb ha e;
+    }

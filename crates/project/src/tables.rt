@@ -1,0 +1,120 @@
+// Tables between 33 places, row by row: the 32 actors, and one place for all actuators.
+ghost use Rattle.std.specs.Prelude.{◌≡◌, ℕ, ◌<◌, ◌≤◌, false, length, is_some, slice_index_or};
+ghost use Rattle.image.specs.Drafts.{plan_of};
+ghost use Rattle.line.specs.Rules.{Proper, Ranged, Sized};
+ghost use Rattle.line.specs.Plan.{delay};
+ghost use Rattle.paths.specs.Least.{length_at};
+ghost use Rattle.paths.specs.Paths.{at};
+ghost use Rattle.paths.specs.Spans.{length_of, no_span};
+ghost use Rattle.project.specs.Tables.{places, place_of, Adds, Laid, Far, Reach};
+
+use image::draft::Draft;
+use line::parts::{Channel, Sink, Source};
+use paths::{Span, Weight, distances, reaches};
+
+pub const PLACES: usize = 33;
+
+pub const EXIT: u8 = 32;
+
+pub const CELLS: usize = 1089;
+
+fn place_of(sink: Sink) -> usize
+    ensures { result ≡ place_of sink }
+{
+    match sink {
+        Sink::Inlet { actor, inlet: _ } => actor as usize,
+        Sink::Actuator(_) => EXIT as usize,
+    }
+}
+
+// The delay of an actor's outlet; 0 for an actor that is not in the draft.
+pub fn delay_at(draft: &Draft, actor: usize, _outlet: usize) -> u32
+    ensures { result ≡ delay (plan_of draft.now) actor _outlet }
+{
+    match draft.actors.get(actor) {
+        Some(found) => found.delay,
+        None => 0,
+    }
+}
+
+// Lays the edge of one channel into the table, beside those that are there.
+fn lay(table: &mut [Span; 1089], draft: &Draft, channel: Channel)
+    requires few { length (plan_of draft.now).actors ≤ 32 }
+    requires proper { Proper (plan_of draft.now) channel }
+    ensures { Adds (plan_of draft.now) channel table.old table.new }
+{
+    if let Source::Outlet { actor, outlet } = channel.source {
+        let delay = delay_at(draft, actor as usize, outlet as usize);
+        let here = actor as usize * PLACES + place_of(channel.sink);
+        table[here] = table[here].pick(Span::micros(delay));
+    }
+}
+
+// The edges that the channels of a draft draw.
+fn edges(draft: &Draft) -> [Span; 1089]
+    requires few { length (plan_of draft.now).actors ≤ 32 }
+    requires ranged { Ranged (plan_of draft.now) }
+    ensures { Laid (plan_of draft.now) (plan_of draft.now).channels result }
+{
+    let mut table = [Span::none(); 1089];
+    let channels = draft.channels.as_slice();
+    for c in channels {
+        lay(&mut table, draft, *c);
+    }
+    table
+}
+
+// The least sums of delays between actors, and from actors to an actuator.
+pub fn far(draft: &Draft) -> [Span; 1089]
+    requires few { length (plan_of draft.now).actors ≤ 32 }
+    requires ranged { Ranged (plan_of draft.now) }
+    ensures { Far (plan_of draft.now) result }
+{
+    let mut table = edges(draft);
+    let _ = distances(&mut table, PLACES);
+    table
+}
+
+// Where there is an edge.
+fn links(edges: &[Span; 1089]) -> [bool; 1089]
+    ensures { (k : ℕ) → k < 1089 → slice_index_or result k false ≡ is_some (length_of (slice_index_or edges.now k no_span)) }
+{
+    let mut table = [false; 1089];
+    for k in 0..1089 {
+        table[k] = edges[k].length().is_some();
+    }
+    table
+}
+
+// Which actors reach which, and which reach an actuator.
+pub fn reach(draft: &Draft) -> [bool; 1089]
+    requires few { length (plan_of draft.now).actors ≤ 32 }
+    requires ranged { Ranged (plan_of draft.now) }
+    ensures { Reach (plan_of draft.now) result }
+{
+    let mut table = links(&edges(draft));
+    let _ = reaches(&mut table, PLACES);
+    table
+}
+
+// Whether the table leads from b to a.
+pub fn leads(table: &[bool; 1089], b: u8, a: u8) -> bool
+    ensures { result ≡ at false places table.now b a }
+{
+    let k = b as usize * PLACES + a as usize;
+    if k >= CELLS {
+        return false;
+    }
+    table[k]
+}
+
+// The length from b to a, if the table has one.
+pub fn span_between(table: &[Span; 1089], b: u8, a: u8) -> Option<u64>
+    ensures { result ≡ length_at places table.now b a }
+{
+    let k = b as usize * PLACES + a as usize;
+    if k >= CELLS {
+        return None;
+    }
+    table[k].length()
+}
