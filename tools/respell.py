@@ -16,6 +16,8 @@ import sys
 NAME = r"[^\s.:;,(){}\[\]«»⌜⌝]+"
 HEAD = re.compile(r"^((?:(?:abbrev|unfoldable|data|record|pub|package) )*)(" + NAME + r")((?: [({].*)?) : (.*)$")
 FIELD = re.compile(r"^  (?:pub )?(" + NAME + r") :")
+# Fields, constructors and facts that stand in a module inside a file, where the reading by lines does not see them.
+NESTED = {"in-range": "in_range", "no-path": "no_path", "Sent-so-far": "SentSoFar"}
 GENERATED = re.compile(r"^(invariant|decreases|returns|overflow|loop|ghost)-|-requires(-\d+)?$|^invariant$")
 
 
@@ -99,6 +101,7 @@ def turn(text, change, goals):
 def main():
     root = sys.argv[1] if len(sys.argv) > 1 else "."
     words, lemmas = gather(root)
+    words.update(NESTED)
     change = {a: b for a, b in words.items() if a != b}
     for name in lemmas:
         if name not in change and "-" in name and not GENERATED.search(name):

@@ -2,6 +2,6 @@
 #![tactic(auto)]
 
 #[cfg(test)]
-mod banks;
+mod firings;
 #[cfg(test)]
 mod kinds;

@@ -1,6 +1,6 @@
 -- What the checks of the front leave, and the image put together from its parts.
 use Rattle.std.proofs.Common.{◌≡◌, ℕ, ◌+◌, ◌*◌, ◌<◌, ◌≤◌, List, [], ◌∷◌, ◌++◌, length, sym, refl, ap, ◌∙◌, subst, inl, inr, ⊎_elim, arith}
-use Rattle.std.specs.List.{flat_map, AllByRecursion as All}
+use Rattle.std.specs.List.{flat_map, AllByRecursion}
 use Rattle.std.proofs.ByRecursion.{All-get_or}
 use Rattle.std.proofs.lemmas.List.{append_assoc, take_all}
 use Rattle.std.proofs.lemmas.Bool.{cases_eq, cases_lt}
@@ -21,7 +21,7 @@ use Rattle.image.specs.declared.draft.Draft.{Draft}
 use Rattle.image.specs.declared.counts.Counts.{Counts}
 use Rattle.image.proofs.Numbers.{between-add, bytes-at}
 
-all_in : {X : Type 0} (P : X → Type 0) (xs : List X) (x : X) → All P xs → In x xs → P x
+all_in : {X : Type 0} (P : X → Type 0) (xs : List X) (x : X) → AllByRecursion P xs → In x xs → P x
 all_in P [] x a i = absurd i
 all_in P (y ∷ ys) x a (inl e) = subst P (sym e) a.0
 all_in P (y ∷ ys) x a (inr i) = all_in P ys x a.1 i
@@ -39,8 +39,8 @@ module _ (bs : List ℕ) (long : 9 ≤ length bs) where
       let all = bytes-at bs 0 (0 ∷ 1 ∷ 2 ∷ 3 ∷ 4 ∷ []) (refl, (refl, (refl, (refl, (refl, tt))))) (omega arith) in
       cc
 
-  in-range : Nowhere (Uncounted bs) → (i : ℕ) → i < 4 → (1 ≤ byte bs (5 + i)) × (byte bs (5 + i) ≤ most i)
-  in-range none i l = (
+  in_range : Nowhere (Uncounted bs) → (i : ℕ) → i < 4 → (1 ≤ byte bs (5 + i)) × (byte bs (5 + i) ≤ most i)
+  in_range none i l = (
     ⊎_elim (λ (z : byte bs (5 + i) < 1). absurd (none (5 + i) (i, l, refl, inl (omega arith)))) (λ h. h)
         (cases_lt (byte bs (5 + i)) 1),
     ⊎_elim (λ h. absurd (none (5 + i) (i, l, refl, inr h))) (λ h. h) (cases_lt (most i) (byte bs (5 + i))),
@@ -55,10 +55,10 @@ module _ (bs : List ℕ) (long : 9 ≤ length bs) where
   fronted n e head count len = subst (Fronted bs) (sym e) record {
     marked = marked head;
     counted = refl;
-    sensors = in-range count 0 (omega arith);
-    actors = in-range count 1 (omega arith);
-    actuators = in-range count 2 (omega arith);
-    channels = in-range count 3 (omega arith);
+    sensors = in_range count 0 (omega arith);
+    actors = in_range count 1 (omega arith);
+    actuators = in_range count 2 (omega arith);
+    channels = in_range count 3 (omega arith);
     whole = fits len;
   }
 
@@ -121,8 +121,8 @@ drafted bs n d front e sensors actors channels =
         few_channels = omega (arith, channels.many, there.channels);
       };
       ranged = record {
-        latenesses = λ i l. All-get_or (λ x. x ≤ longest) p.sensors i 0 l sensors.in-range;
-        actors = λ i l. All-get_or Possible p.actors i nobody l actors.in-range;
-        channels = λ x i. all_in (Wired n) p.channels x channels.in-range i p fits;
+        latenesses = λ i l. All-get_or (λ x. x ≤ longest) p.sensors i 0 l sensors.in_range;
+        actors = λ i l. All-get_or Possible p.actors i nobody l actors.in_range;
+        channels = λ x i. all_in (Wired n) p.channels x channels.in_range i p fits;
       };
     }

@@ -28,7 +28,7 @@ pub judged-same : {X : Type 0} (f : X → List ℕ) (fine : X → Type 0) (P Q :
     (r : Result X ℕ)
     → Same P Q → bs ≡ cs → Judged f fine P bs w r → Judged f fine Q cs w r
 judged-same f fine P Q bs cs w (Ok x) s e j =
-    record { spells = j.spells ∙ e; in-range = j.in-range; clean = λ k q. j.clean k (s.back k q) }
+    record { spells = j.spells ∙ e; in_range = j.in_range; clean = λ k q. j.clean k (s.back k q) }
 judged-same f fine P Q bs cs w (Err k) s e j = (j.0, lowest-same P Q k s j.1)
 
 -- a fact about a place and a count, at other names of these

@@ -46,7 +46,7 @@ module _ {X : Type 0} (f : X → List ℕ) (w : ℕ) (fine : X → Type 0) (bad 
     spell = sym (flat_map_more f [] xs x) ∙ ap (λ s. s ++ f x) all.spell
         ∙ ap (λ s. between at (w * i) bs ++ s) one.spells
         ∙ sym (between-add at (w * i) w (at + w * i) bs refl) ∙ ap (λ n. between at n bs) (sym (one_more w i));
-    in-range = All-push fine xs x all.in-range one.in-range;
+    in_range = All-push fine xs x all.in_range one.in_range;
     clean = λ k b. ⊎_elim
         (λ (e : b.0 ≡ i). one.clean b.1 (subst (λ (m : ℕ). bad bs (at + w * m) b.1) e b.4))
         (λ o.

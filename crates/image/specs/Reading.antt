@@ -1,6 +1,6 @@
 -- What the parts of a reading answer: a record or the lowest bad place.
 use Rattle.std.specs.Prelude.{◌≡◌, ℕ, ◌+◌, ◌*◌, ◌<◌, ◌≤◌, ◌⊎◌, List, length, Result, MatchResult}
-use Rattle.std.specs.List.{flat_map, AllByRecursion as All}
+use Rattle.std.specs.List.{flat_map, AllByRecursion}
 use Rattle.fault.specs.declared.Fault.{Fault}
 use Rattle.bounded.specs.Held.{held}
 use Rattle.bounded.specs.declared.Bounded.{Bounded}
@@ -12,7 +12,7 @@ use Rattle.image.specs.declared.counts.Counts.{Counts}
 
 -- each is a byte
 abbrev pub Octets : List ℕ → Type 0
-Octets bs = All (λ b. b < 256) bs
+Octets bs = AllByRecursion (λ b. b < 256) bs
 
 -- P holds of no place
 abbrev pub Nowhere : (ℕ → Type 0) → Type 0
@@ -32,7 +32,7 @@ pub record Got
     {X : Type 0} (spelt : X → List ℕ) (fine : X → Type 0) (bad : ℕ → Type 0) (bytes : List ℕ) (x : X)
     : Type 0 where
   pub spells : spelt x ≡ bytes
-  pub in-range : fine x
+  pub in_range : fine x
   pub clean : Nowhere bad
 
 -- the record of these bytes, or the offset of its lowest bad field, below w
@@ -57,7 +57,7 @@ pub record GotAll
     : Type 0 where
   pub many : length xs ≡ n
   pub spell : flat_map spelt xs ≡ between at (w * n) bs
-  pub in-range : All fine xs
+  pub in_range : AllByRecursion fine xs
   pub clean : Nowhere (BadRow bad w bs at n)
 
 -- the n records, or the lowest place of a bad field, which lies among them

@@ -3,7 +3,7 @@ use Rattle.std.proofs.Common.{◌≡◌, ℕ, ◌+◌, ◌*◌, ◌^◌, ◌<◌
 use Rattle.std.proofs.lemmas.Bool.{cases_lt, false≢true, or_right}
 use Rattle.std.proofs.lemmas.Bool.Decides.{Decides-and}
 use Rattle.paths.specs.Paths.{at, along, Below, Linked, total, Chosen, Closure}
-use Rattle.paths.specs.Paths.Chosen.{no-path, path, either}
+use Rattle.paths.specs.Paths.Chosen.{no_path, path, either}
 use Rattle.paths.specs.Spans.{greatest, no_span, shorter, after}
 use Rattle.paths.specs.Least.{Connected, length_at, Edge, micros_at, Short, Distances, Reached}
 use Rattle.paths.specs.declared.span.Span.{Span}
@@ -15,7 +15,7 @@ picked : {W : Type 0} {none : W} {choose join : W → W → W}
     → ((x y : W) → (choose x y ≡ x) ⊎ (choose x y ≡ y))
     → (e : ℕ → ℕ → W) (n i j : ℕ) (w : W) → Chosen none choose join e n i j w
     → (w ≡ none) ⊎ ((ks : List ℕ) × Below n ks × (w ≡ along join e i ks j))
-picked one e n i j w no-path = inl refl
+picked one e n i j w no_path = inl refl
 picked one e n i j w (path ks b) = inr (ks, b, refl)
 picked one e n i j w (either {x = x} {y = y} a b) =
     ⊎_elim (λ l. rw l (picked one e n i j x a)) (λ r. rw r (picked one e n i j y b)) (one x y)

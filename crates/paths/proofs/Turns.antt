@@ -6,7 +6,7 @@ use Rattle.std.proofs.lemmas.List.{get_or-set_same, get_or-set_other}
 use Rattle.std.proofs.lemmas.Bool.{cases_eq}
 use Rattle.paths.specs.Laws.{Laws}
 use Rattle.paths.specs.Paths.{at, along, Below, Covers, Chosen, Closure, relaxed}
-use Rattle.paths.specs.Paths.Chosen.{no-path, path, either}
+use Rattle.paths.specs.Paths.Chosen.{no_path, path, either}
 use Rattle.paths.proofs.Order as order
 use Rattle.paths.proofs.Visits.{first, last}
 
@@ -43,13 +43,13 @@ module _ {W : Type 0} {none empty : W} {choose join : W → W → W} (laws : Law
 
   -- a choice of paths to k, joined with one of paths on from k, is a choice of paths
   join-ways : (i k j : ℕ) → k < n → (x y : W) → Ways i k x → Ways k j y → Ways i j (join x y)
-  join-ways i k j hk x y no-path c = rw (laws.none_join y) no-path
+  join-ways i k j hk x y no_path c = rw (laws.none_join y) no_path
   join-ways i k j hk x y (either {x = u} {y = v} a b) c =
       rw (laws.choose_join u v y) (either (join-ways i k j hk u y a c) (join-ways i k j hk v y b c))
   join-ways i k j hk x y (path p bp) c = onward y c
     where
       onward : (y : W) → Ways k j y → Ways i j (join (along join e i p k) y)
-      onward y no-path = rw (laws.join_none (along join e i p k)) no-path
+      onward y no_path = rw (laws.join_none (along join e i p k)) no_path
       onward y (path q bq) =
           let below = All-append (λ v. v < n) p (k ∷ q) bp (hk, bq) in
           rw (← order.along-append laws e i k j p q) (path (p ++ k ∷ q) below)

@@ -1,6 +1,6 @@
 -- Paths over a square table of edges, kept row by row, and what its closure is. Assumes nothing.
 use Rattle.std.specs.Prelude.{◌≡◌, ℕ, ◌+◌, ◌*◌, ◌<◌, List, [], ◌∷◌, get_or, set}
-use Rattle.std.specs.List.{AllByRecursion as All}
+use Rattle.std.specs.List.{AllByRecursion}
 
 -- row i, column j of a table with rows of n: the edge from i to j
 abbrev pub at : {W : Type 0} → W → ℕ → List W → ℕ → ℕ → W
@@ -8,7 +8,7 @@ at none n t i j = get_or t (i * n + j) none
 
 -- each of the places is below n
 abbrev pub Below : ℕ → List ℕ → Type 0
-Below n ks = All (λ k. k < n) ks
+Below n ks = AllByRecursion (λ k. k < n) ks
 
 -- the edges e on the way from i through the inner places ks to j, joined in order
 abbrev pub along {ℓ} : {W : Type ℓ} → (W → W → W) → (ℕ → ℕ → W) → ℕ → List ℕ → ℕ → W
@@ -30,7 +30,7 @@ Covers choose x y = choose x y ≡ x
 module _ {W : Type 0} (none : W) (choose join : W → W → W) where
   -- the choice among finitely many paths from i to j over the edges e, with inner places below n
   pub data Chosen (e : ℕ → ℕ → W) (n i j : ℕ) : W → Type 0 where
-    no-path : Chosen e n i j none
+    no_path : Chosen e n i j none
     path : (ks : List ℕ) → Below n ks → Chosen e n i j (along join e i ks j)
     either : {x y : W} → Chosen e n i j x → Chosen e n i j y → Chosen e n i j (choose x y)
 

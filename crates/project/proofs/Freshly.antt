@@ -76,9 +76,9 @@ lives : (a : ℕ) → Severed fresh_plan a → ⊥
 lives zero w = ⊎_elim (λ f. f 0 0 (0, 0, inl refl, inl (refl, refl))) (λ f. f 1 (out 0 0 (inr (inl refl)))) w.1
 lives (suc a) w = omega (arith, w.0)
 
-no-path : (b a n : ℕ) → Path fresh_plan b a n → ⊥
-no-path b a n (hop o i m) = no-hop b o a i m
-no-path b a n (via {c = c} o i m q) = no-hop b o c i m
+no_path : (b a n : ℕ) → Path fresh_plan b a n → ⊥
+no_path b a n (hop o i m) = no-hop b o a i m
+no_path b a n (via {c = c} o i m q) = no-hop b o c i m
 
 pub fresh-lawful : Lawful fresh_plan
 fresh-lawful = record {
@@ -89,5 +89,5 @@ fresh-lawful = record {
   feeding = feeds;
   fed = is-fed;
   live = lives;
-  moving = λ a w. no-path a a 0 w.1;
+  moving = λ a w. no_path a a 0 w.1;
 }

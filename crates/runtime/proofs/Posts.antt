@@ -19,17 +19,17 @@ next-port (suc (suc (suc (suc o)))) h = absurd (omega arith)
 
 module _ {A : Type 0} (f : A → ℕ) (g : ℕ → List A) (zs : List A) where
   -- xs, with all from outlet o on, is what zs is with all
-  abbrev pub Sent-so-far : ℕ → List A → Type 0
-  Sent-so-far o xs = put_all f (flat_map g (drop o ports)) xs ≡ put_all f (flat_map g ports) zs
+  abbrev pub SentSoFar : ℕ → List A → Type 0
+  SentSoFar o xs = put_all f (flat_map g (drop o ports)) xs ≡ put_all f (flat_map g ports) zs
 
   turn : (o : ℕ) (xs : List A) → o < 4 → put_all f (flat_map g (drop o ports)) xs ≡ put_all f (flat_map g (drop (o + 1) ports)) (put_all f (g o) xs)
   turn o xs h = ap (λ os. put_all f (flat_map g os) xs) (next-port o h) ∙ put-all-append f (g o) (flat_map g (drop (o + 1) ports)) xs
 
-  pub sent-more : (o : ℕ) (xs ys : List A) → o < 4 → Sent-so-far o xs → ys ≡ put_all f (g o) xs → Sent-so-far (o + 1) ys
+  pub sent-more : (o : ℕ) (xs ys : List A) → o < 4 → SentSoFar o xs → ys ≡ put_all f (g o) xs → SentSoFar (o + 1) ys
   sent-more o xs ys h e q = ap (put_all f (flat_map g (drop (o + 1) ports))) q ∙ sym (turn o xs h) ∙ e
 
   -- each outlet finds room where all together do
-  pub send-room : (n o : ℕ) (xs : List A) → o < 4 → Sent-so-far o xs → length zs + length (flat_map g ports) ≤ n → length xs + length (g o) ≤ n
+  pub send-room : (n o : ℕ) (xs : List A) → o < 4 → SentSoFar o xs → length zs + length (flat_map g ports) ≤ n → length xs + length (g o) ≤ n
   send-room n o xs h e r =
       let before = length-put-all f (flat_map g ports) zs in
       let all = ap length (sym (turn o xs h) ∙ e) in
@@ -37,5 +37,5 @@ module _ {A : Type 0} (f : A → ℕ) (g : ℕ → List A) (zs : List A) where
       let one = length-put-all f (g o) xs in
       omega arith
 
-  pub sent-all : (o : ℕ) (xs : List A) → o ≡ 4 → Sent-so-far o xs → xs ≡ put_all f (flat_map g ports) zs
+  pub sent-all : (o : ℕ) (xs : List A) → o ≡ 4 → SentSoFar o xs → xs ≡ put_all f (flat_map g ports) zs
   sent-all o xs e h = rw e at h

@@ -1,6 +1,6 @@
 -- Reading a number digit by digit.
 use Rattle.std.proofs.Common.{◌≡◌, ℕ, ◌+◌, ◌-◌, ◌*◌, ◌^◌, ◌<◌, ◌≤◌, List, [], ◌∷◌, length, get_or, take, drop, ◌∙◌, subst, arith}
-use Rattle.std.specs.List.{AllByRecursion as All}
+use Rattle.std.specs.List.{AllByRecursion}
 use Rattle.std.proofs.ByRecursion.{All-get_or, All-more}
 use Rattle.std.proofs.lemmas.List.{at_drop_more, at_drop_all, take_all}
 use Rattle.script.specs.Decimals.{Digit, value_behind, Number}
@@ -12,7 +12,7 @@ behind-least n (c ∷ cs) = omega (arith, behind-least (n * 10 + (c - 48)) cs)
 
 -- the first i are digits, and n is what they write
 pub record SoFar (ds : List ℕ) (i n : ℕ) : Type 0 where
-  pub digits : All Digit (take i ds)
+  pub digits : AllByRecursion Digit (take i ds)
   pub value : value_behind 0 ds ≡ value_behind n (drop i ds)
   pub fits : n < 2 ^ 64
 
@@ -39,7 +39,7 @@ pub whole : (ds : List ℕ) (i n : ℕ) → length ds ≤ i → 0 < length ds �
 whole ds i n end some sofar = record {
   decimal = record {
     some = some;
-    digits = subst (All Digit) (take_all i ds end) sofar.digits;
+    digits = subst (AllByRecursion Digit) (take_all i ds end) sofar.digits;
     value = sofar.value ∙ at_drop_all (value_behind n) ds i end;
   };
   fits = sofar.fits;

@@ -1,7 +1,7 @@
 -- Reading a number that may have a minus.
 use Rattle.std.proofs.Common.{◌≡◌, ℕ, ◌^◌, ◌<◌, ◌≤◌, List, ◌∷◌, ℤ, pos, neg_ℤ, Some, None, Option, sym, refl, ◌∙◌, subst, arith}
 use Rattle.std.specs.Option.{SomeIff}
-use Rattle.std.specs.List.{AllByRecursion as All}
+use Rattle.std.specs.List.{AllByRecursion}
 use Rattle.script.specs.Decimals.{Digit, Decimal, Number, Signed, plain, minus}
 use Rattle.script.specs.Parts.{Reads}
 
@@ -11,7 +11,7 @@ same-value a b = sym a.value ∙ b.value
 
 -- a minus is no digit
 pub no_minus : {bs : List ℕ} {n : ℕ} → Decimal bs n → (ds : List ℕ) → bs ≡ 45 ∷ ds → ⊥
-no_minus d ds e = let first : Digit 45 = (subst (All Digit) e d.digits).0 in omega arith
+no_minus d ds e = let first : Digit 45 = (subst (AllByRecursion Digit) e d.digits).0 in omega arith
 
 -- what stands behind a minus
 pub minus-parts : (bs ds : List ℕ) (z : ℤ) → bs ≡ 45 ∷ ds → Signed bs z →

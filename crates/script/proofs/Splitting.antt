@@ -1,7 +1,7 @@
 -- The first space of a text.
 use Rattle.std.proofs.Common.{◌≡◌, ℕ, ◌+◌, ◌-◌, ◌<◌, List, [], ◌∷◌, ◌++◌, length, get_or, take, drop, ℤ, sym, refl, ap, ◌∙◌, arith}
 use native.Mathlib.Nat.{sub-zero}
-use Rattle.std.specs.List.{AllByRecursion as All}
+use Rattle.std.specs.List.{AllByRecursion}
 use Rattle.std.proofs.lemmas.List.{drop_more, take_rest, take-append-drop}
 use Rattle.std.proofs.ByRecursion.{All-weaker}
 use Rattle.script.specs.Decimals.{Digit, Number, Signed}
@@ -9,7 +9,7 @@ use Rattle.script.specs.Parts.{NoSpace, Split}
 use Rattle.script.specs.Spelling.{Arrival}
 
 -- a space at i, and none before it
-pub split_at : (bs : List ℕ) (i : ℕ) → i < length bs → get_or bs i 0 ≡ 32 → All NoSpace (take i bs)
+pub split_at : (bs : List ℕ) (i : ℕ) → i < length bs → get_or bs i 0 ≡ 32 → AllByRecursion NoSpace (take i bs)
     → Split bs (take (i - 0) bs) (take (length bs - (i + 1)) (drop (i + 1) bs))
 split_at bs i within space none =
     rw (take_rest bs (i + 1), sub-zero i) (record {
@@ -17,16 +17,16 @@ split_at bs i within space none =
       first = none;
     })
 
-pub no-spaces : {ds : List ℕ} {n : ℕ} → Number ds n → All NoSpace ds
+pub no-spaces : {ds : List ℕ} {n : ℕ} → Number ds n → AllByRecursion NoSpace ds
 no-spaces {ds} is = All-weaker Digit NoSpace (λ c d e. omega arith) ds is.decimal.digits
 
 -- a text without a space has none anywhere
-pub spaceless : (s r : List ℕ) → All NoSpace (s ++ (32 ∷ r)) → ⊥
+pub spaceless : (s r : List ℕ) → AllByRecursion NoSpace (s ++ (32 ∷ r)) → ⊥
 spaceless [] r none = none.0 refl
 spaceless (c ∷ s) r none = spaceless s r none.1
 
 -- two fronts without a space before the same space
-same-split : (a s b r : List ℕ) → All NoSpace a → All NoSpace s → a ++ (32 ∷ b) ≡ s ++ (32 ∷ r) → (a ≡ s) × (b ≡ r)
+same-split : (a s b r : List ℕ) → AllByRecursion NoSpace a → AllByRecursion NoSpace s → a ++ (32 ∷ b) ≡ s ++ (32 ∷ r) → (a ≡ s) × (b ≡ r)
 same-split [] [] b r p q e = (refl, cc)
 same-split [] (c ∷ s) b r p q e = let same : c ≡ 32 = cc in absurd (q.0 same)
 same-split (c ∷ a) [] b r p q e = let same : c ≡ 32 = cc in absurd (p.0 same)
@@ -37,14 +37,14 @@ same-split (c ∷ a) (d ∷ s) b r p q e =
     (cc step.0, step.1)
 
 module _ (bs : List ℕ) (i j : ℕ) (z : ℤ) (h : Arrival bs i j z) where
-  pub no-first : All NoSpace bs → ⊥
+  pub no-first : AllByRecursion NoSpace bs → ⊥
   no-first none = spaceless h.s (h.t ++ (32 ∷ h.v)) (rw h.apart at none)
 
   module _ (a b : List ℕ) (cut : Split bs a b) where
     here : (a ≡ h.s) × (b ≡ h.t ++ (32 ∷ h.v))
     here = same-split a h.s b (h.t ++ (32 ∷ h.v)) cut.first (no-spaces h.first) (sym cut.whole ∙ h.apart)
 
-    pub no_second : All NoSpace b → ⊥
+    pub no_second : AllByRecursion NoSpace b → ⊥
     no_second none = spaceless h.t h.v (rw here.1 at none)
 
     pub sensor-is : Number a i

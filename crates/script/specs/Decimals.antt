@@ -1,6 +1,6 @@
 -- Numbers in a script: plain decimals.
 use Rattle.std.specs.Prelude.{◌≡◌, ℕ, ◌+◌, ◌-◌, ◌*◌, ◌^◌, ◌<◌, ◌≤◌, List, [], ◌∷◌, length, ℤ, pos, neg_ℤ}
-use Rattle.std.specs.List.{AllByRecursion as All}
+use Rattle.std.specs.List.{AllByRecursion}
 
 -- the code of a digit, from 48 for 0 to 57 for 9
 abbrev pub Digit : ℕ → Type 0
@@ -14,7 +14,7 @@ value_behind n (c ∷ cs) = value_behind (n * 10 + (c - 48)) cs
 -- one digit or more, and nothing else, that write n; zeros may stand in front
 pub record Decimal (ds : List ℕ) (n : ℕ) : Type 0 where
   pub some : 0 < length ds
-  pub digits : All Digit ds
+  pub digits : AllByRecursion Digit ds
   pub value : value_behind 0 ds ≡ n
 
 -- a number of 64 bits

@@ -1,6 +1,6 @@
 -- What the parts of reading a line answer.
 use Rattle.std.specs.Prelude.{◌≡◌, ℕ, List, ◌∷◌, ◌++◌, Option, MatchOption}
-use Rattle.std.specs.List.{AllByRecursion as All}
+use Rattle.std.specs.List.{AllByRecursion}
 use Rattle.runs.specs.declared.records.Call.{Call}
 use Rattle.runs.specs.declared.records.Call.TheVariants.{Arrive, Advance, Pick, Start, Finish, Deliver, Report}
 use Rattle.runs.specs.declared.records.Call.TheVariants.{Close}
@@ -27,4 +27,4 @@ NoSpace c = c ≡ 32 → ⊥
 -- what stands before and behind the first space
 pub record Split (bs before behind : List ℕ) : Type 0 where
   pub whole : bs ≡ before ++ (32 ∷ behind)
-  pub first : All NoSpace before
+  pub first : AllByRecursion NoSpace before

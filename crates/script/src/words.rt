@@ -1,6 +1,6 @@
 // A text taken apart.
 ghost use Rattle.std.specs.Prelude.{◌≡◌, ℕ, List, ◌++◌, MatchOption, ◌≢◌};
-ghost use Rattle.std.specs.List.{AllByRecursion as All};
+ghost use Rattle.std.specs.List.{AllByRecursion};
 ghost use Rattle.script.specs.Parts.{NoSpace, Split};
 
 // What stands behind the word that the text begins with.
@@ -12,7 +12,7 @@ pub(crate) fn after<'a>(text: &'a [u8], word: &[u8]) -> Option<&'a [u8]>
 
 // What stands before and behind the first space.
 pub(crate) fn split(text: &[u8]) -> Option<(&[u8], &[u8])>
-    ensures { MatchOption result (All NoSpace text.now) (λ p. Split text.now p.0.now p.1.now) }
+    ensures { MatchOption result (AllByRecursion NoSpace text.now) (λ p. Split text.now p.0.now p.1.now) }
 {
     for (i, code) in text.iter().enumerate() {
         if *code == b' ' {

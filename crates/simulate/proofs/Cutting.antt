@@ -1,6 +1,6 @@
 -- A script cut into its lines.
 use Rattle.std.proofs.Common.{◌≡◌, ℕ, ◌+◌, ◌-◌, ◌<◌, ◌≤◌, cond, List, [], ◌∷◌, ◌++◌, map, length, get_or, take, drop, is_ok, Ok, Result, sym, refl, ap, ◌∙◌, subst, append_assoc, append-nil, arith, Bor}
-use Rattle.std.specs.List.{AllByRecursion as All}
+use Rattle.std.specs.List.{AllByRecursion}
 use Rattle.std.proofs.lemmas.List.Edits.{between_none, between_more}
 use Rattle.std.proofs.ByRecursion.{All-push}
 use Rattle.std.proofs.lemmas.List.{drop_more, drop_all, drop-drop, map_push, take-append-drop, take_rest, length-drop}
@@ -12,11 +12,11 @@ use Rattle.simulate.specs.Lines.{lines_of}
 abbrev pub Inside : ℕ → Type 0
 Inside c = c ≡ 10 → ⊥
 
-line_first : (xs rest : List ℕ) → All Inside xs → lines_of (xs ++ (10 ∷ rest)) ≡ xs ∷ lines_of rest
+line_first : (xs rest : List ℕ) → AllByRecursion Inside xs → lines_of (xs ++ (10 ∷ rest)) ≡ xs ∷ lines_of rest
 line_first [] rest h = refl
 line_first (x ∷ xs) rest h = rw (ne_eqb x 10 h.0, line_first xs rest h.1)
 
-line-last : (xs : List ℕ) → All Inside xs → 0 < length xs → lines_of xs ≡ xs ∷ []
+line-last : (xs : List ℕ) → AllByRecursion Inside xs → 0 < length xs → lines_of xs ≡ xs ∷ []
 line-last [] h some = absurd (omega arith)
 line-last (x ∷ []) h some = rw (ne_eqb x 10 h.0)
 line-last (x ∷ y ∷ xs) h some = rw (ne_eqb x 10 h.0, line-last (y ∷ xs) h.1 (omega arith))
@@ -30,7 +30,7 @@ texts-pushed before l ok e = ap (map (λ y. y.now)) (pushed (l ∷ []) refl ok e
 -- ls are the lines before start, and no line ends from there to i
 pub record Cut (bs : List ℕ) (ls : List (List ℕ)) (start i : ℕ) : Type 0 where
   pub within : start ≤ i
-  pub inside : All Inside (take (i - start) (drop start bs))
+  pub inside : AllByRecursion Inside (take (i - start) (drop start bs))
   pub whole : lines_of bs ≡ ls ++ lines_of (drop start bs)
 
 pub no_line : (bs : List ℕ) → Cut bs [] 0 0
@@ -68,7 +68,7 @@ module _ (bs : List ℕ) (ls : List (List ℕ)) (start i : ℕ) (cut : Cut bs ls
       let line = take (length bs - start) (drop start bs) in
       let all : line ≡ drop start bs = take_rest bs start in
       let front : take (i - start) (drop start bs) ≡ drop start bs = between_to_end bs start i end in
-      let inside : All Inside line = subst (All Inside) (front ∙ sym all) cut.inside in
+      let inside : AllByRecursion Inside line = subst (AllByRecursion Inside) (front ∙ sym all) cut.inside in
       let some : 0 < length line = rw (all, length-drop) (omega arith) in
       sym (cut.whole ∙ ap (λ l. ls ++ l) (ap lines_of (sym all) ∙ line-last line inside some))
 

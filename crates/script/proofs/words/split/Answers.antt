@@ -1,5 +1,5 @@
 use Rattle.std.proofs.Common.{subst, arith}
-use Rattle.std.specs.List.{AllByRecursion as All}
+use Rattle.std.specs.List.{AllByRecursion}
 use Rattle.std.proofs.ByRecursion.{All-more}
 use Rattle.std.proofs.lemmas.List.{take_all}
 use Rattle.script.specs.Parts.{NoSpace}
@@ -13,4 +13,4 @@ pub loop-i-preserved : goal.loop-i-preserved
 loop-i-preserved c = All-more NoSpace c.args.text.now c.loop-i.i 0 (omega arith) c.loop-i.invariant c.if-code-eq32.false
 
 pub returns : goal.returns
-returns c = subst (All NoSpace) (take_all c.loop-i.i c.args.text.now (omega arith)) c.loop-i.invariant
+returns c = subst (AllByRecursion NoSpace) (take_all c.loop-i.i c.args.text.now (omega arith)) c.loop-i.invariant

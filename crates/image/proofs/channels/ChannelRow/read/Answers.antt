@@ -30,7 +30,7 @@ returns c =
     let sink = c.in_ok-sink.ensures in
     record {
       spells = six-at c.args.bytes.now c.args.at _ _ c.requires.room source.spells sink.spells;
-      in-range = λ p h. record { source = source.in-range p h; sink = sink.in-range.0 p h; no_bypass = sink.in-range.1 };
+      in_range = λ p h. record { source = source.in_range p h; sink = sink.in_range.0 p h; no_bypass = sink.in_range.1 };
       clean = channel-clean c.args.bytes.now c.args.at c.args.counts c.requires.counted _
           (sort-of _ source.spells) source.clean sink.clean;
     }
