@@ -5,15 +5,15 @@ use Rattle.std.proofs.lemmas.List.{append-nil, length-take-le, get_or-take, take
 use Rattle.std.proofs.lemmas.Option.{slice_get-get_or}
 use Rattle.bounded.specs.Held.{final, front}
 
-pub nth-take : {A : Type 0} (n : ℕ) (xs : List A) (i : ℕ) (d : A) → i < n → n ≤ length xs
+pub slice_get-take : {A : Type 0} (n : ℕ) (xs : List A) (i : ℕ) (d : A) → i < n → n ≤ length xs
     → slice_get (take n xs) i ≡ Some (get_or xs i d)
-nth-take n xs i d lt le =
+slice_get-take n xs i d lt le =
     let l : length (take n xs) ≡ n = length-take-le n xs le in
     slice_get-get_or (take n xs) i d (omega arith) ∙ ap Some (get_or-take n xs i d lt)
 
 pub final-take : {A : Type 0} (n : ℕ) (xs : List A) (d : A) → 0 < n → n ≤ length xs
     → final (take n xs) ≡ Some (get_or xs (n - 1) d)
-final-take n xs d pos le = rw (length-take-le n xs le) (nth-take n xs (n - 1) d (omega arith) le)
+final-take n xs d pos le = rw (length-take-le n xs le) (slice_get-take n xs (n - 1) d (omega arith) le)
 
 pub front-take : {A : Type 0} (n : ℕ) (xs : List A) → n ≤ length xs → front (take n xs) ≡ take (n - 1) xs
 front-take n xs le = rw (length-take-le n xs le) (take-take (n - 1) n xs (omega arith))

@@ -20,10 +20,10 @@ use Rattle.image.proofs.Accepted.{sensor-clean, sensor-same, actor-clean, actor-
 use Rattle.image.proofs.Order.{sensors}
 use Rattle.image.proofs.Spelling.{row_at, row-clean, length-channel, image-length, records, sensors-at, actors_at, channels_at}
 
-in-getD : {X : Type 0} (xs : List X) (i : ℕ) (d : X) → i < length xs → In (get_or xs i d) xs
-in-getD [] i d l = omega arith
-in-getD (x ∷ xs) zero d l = inl refl
-in-getD (x ∷ xs) (suc i) d l = inr (in-getD xs i d (omega arith))
+in-get_or : {X : Type 0} (xs : List X) (i : ℕ) (d : X) → i < length xs → In (get_or xs i d) xs
+in-get_or [] i d l = omega arith
+in-get_or (x ∷ xs) zero d l = inl refl
+in-get_or (x ∷ xs) (suc i) d l = inr (in-get_or xs i d (omega arith))
 
 -- bytes that are a part lie within the whole
 room : (x bs : List ℕ) (b n : ℕ) → length x ≡ n → 0 < n → x ≡ between b n bs → b + n ≤ length bs
@@ -64,7 +64,7 @@ module _ (p : Plan) (s : Sized p) (r : Ranged p) where
       (λ i at l e.
       let x = get_or p.channels i no_channel in
       channel-clean (image p) at p x fits (room _ (image p) at 6 (length-channel x) (omega arith) e)
-      (r.channels x (in-getD p.channels i no_channel l)) e)
+      (r.channels x (in-get_or p.channels i no_channel l)) e)
       k))
 
   pub sound-image : (f : Fault) → (entry f).number ≤ 4 → Faulty (image p) f → ⊥

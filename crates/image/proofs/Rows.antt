@@ -18,10 +18,10 @@ pub one_more : (w i : ℕ) → w * (i + 1) ≡ w * i + w
 one_more w i = omega (arith, mul-suc w i, ap (λ k. w * k) (add-one i))
 
 module _ {X : Type 0} (f : X → List ℕ) (w : ℕ) (even : (x : X) → length (f x) ≡ w) where
-  pub length-joined : (xs : List X) → length (flat_map f xs) ≡ w * length xs
-  length-joined [] = sym (mul-zero w)
-  length-joined (x ∷ xs) =
-      length-append (f x) (flat_map f xs) ∙ omega (arith, even x, length-joined xs, mul-suc w (length xs))
+  pub length-flat_map : (xs : List X) → length (flat_map f xs) ≡ w * length xs
+  length-flat_map [] = sym (mul-zero w)
+  length-flat_map (x ∷ xs) =
+      length-append (f x) (flat_map f xs) ∙ omega (arith, even x, length-flat_map xs, mul-suc w (length xs))
 
   -- one record more is written
   pub write-more : (d : List ℕ) (at i : ℕ) (xs : List X) (r r' : List ℕ) (z : X) → i < length xs → at ≤ length d
@@ -31,7 +31,7 @@ module _ {X : Type 0} (f : X → List ℕ) (w : ℕ) (even : (x : X) → length 
       let ys = flat_map f (take i xs) in
       let y = f (get_or xs i z) in
       let long : length (take i xs) ≡ i = length-take-le i xs (omega arith) in
-      let far : at + length ys ≡ at + w * i = ap (λ m. at + m) (length-joined (take i xs) ∙ ap (λ m. w * m) long) in
+      let far : at + length ys ≡ at + w * i = ap (λ m. at + m) (length-flat_map (take i xs) ∙ ap (λ m. w * m) long) in
       put_next d ys y at (at + w * i) room far e e'
       ∙ ap (put d at) (flat_map_more f [] (take i xs) (get_or xs i z) ∙ ap (flat_map f) (sym (take_more xs i z h)))
 

@@ -14,7 +14,7 @@ use Rattle.image.specs.Reading.{Nowhere, BadRow}
 use Rattle.image.specs.Refusals.{byte}
 use Rattle.image.proofs.Fields.{length-source}
 use Rattle.image.proofs.Puts.{put_next}
-use Rattle.image.proofs.Rows.{length-joined}
+use Rattle.image.proofs.Rows.{length-flat_map}
 
 -- what begins a part, and what follows
 pub parts : (x s bs : List ℕ) (at w m : ℕ) → length x ≡ w → x ++ s ≡ between at (w + m) bs
@@ -77,13 +77,13 @@ module _ (p : Plan) where
   records = js ++ (ja ++ jc)
 
   ls : length js ≡ 4 * length p.sensors
-  ls = length-joined sensor_bytes 4 (λ x. refl) p.sensors
+  ls = length-flat_map sensor_bytes 4 (λ x. refl) p.sensors
 
   la : length ja ≡ 9 * length p.actors
-  la = length-joined actor_bytes 9 (λ x. refl) p.actors
+  la = length-flat_map actor_bytes 9 (λ x. refl) p.actors
 
   lc : length jc ≡ 6 * length p.channels
-  lc = length-joined channel_bytes 6 length-channel p.channels
+  lc = length-flat_map channel_bytes 6 length-channel p.channels
 
   pub image-length : length (image p) ≡ size (length p.sensors) (length p.actors) (length p.channels)
   image-length = omega (arith, length-append js (ja ++ jc), length-append ja jc, ls, la, lc)

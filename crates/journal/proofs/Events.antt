@@ -19,11 +19,11 @@ use Rattle.journal.specs.Same.{EqualEventsBelow, Run}
 use Rattle.journal.specs.declared.entry.Arrival.{Arrival}
 use Rattle.journal.proofs.Numbers.{all-kept}
 
-joined-map : {X A B : Type 0} (f : A → B) (g : X → List A) (xs : List X) →
+flat_map-map : {X A B : Type 0} (f : A → B) (g : X → List A) (xs : List X) →
     flat_map (λ x. map f (g x)) xs ≡ map f (flat_map g xs)
-joined-map f g [] = refl
-joined-map {B = B} f g (x ∷ xs) =
-    ap (λ (l : List B). map f (g x) ++ l) (joined-map f g xs) ∙ sym (map-append f (g x) (flat_map g xs))
+flat_map-map f g [] = refl
+flat_map-map {B = B} f g (x ∷ xs) =
+    ap (λ (l : List B). map f (g x) ++ l) (flat_map-map f g xs) ∙ sym (map-append f (g x) (flat_map g xs))
 
 -- coding loses nothing
 decoded : Arrival → runs.Arrival
@@ -36,7 +36,7 @@ decoded-all (y ∷ ys) = ap (λ (l : List runs.Arrival). y ∷ l) (decoded-all y
 
 events-told : (h : Journal) (x : ℕ) → told_of arrivals x h ≡ map coded (sensor_events h x)
 events-told h x =
-    ap (keep (λ (a : Arrival). eqb a.sensor x)) (joined-map coded (λ (s : Step). arrival_in s.call s.answer) h)
+    ap (keep (λ (a : Arrival). eqb a.sensor x)) (flat_map-map coded (λ (s : Step). arrival_in s.call s.answer) h)
     ∙ keep-map coded (λ (a : Arrival). eqb a.sensor x) (runs.arrivals h)
 
 events-from-told : (h k : Journal) (x : ℕ) → told_of arrivals x h ≡ told_of arrivals x k →

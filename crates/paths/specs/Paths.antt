@@ -1,10 +1,10 @@
 -- Paths over a square table of edges, kept row by row, and what its closure is. Assumes nothing.
-use Rattle.std.specs.Prelude.{◌≡◌, ℕ, ◌+◌, ◌*◌, ◌<◌, List, [], ◌∷◌, get_or, set}
+use Rattle.std.specs.Prelude.{◌≡◌, ℕ, ◌+◌, ◌*◌, ◌<◌, List, [], ◌∷◌, slice_index_or, slice_set}
 use Rattle.std.specs.List.{AllByRecursion}
 
 -- row i, column j of a table with rows of n: the edge from i to j
 abbrev pub at : {W : Type 0} → W → ℕ → List W → ℕ → ℕ → W
-at none n t i j = get_or t (i * n + j) none
+at none n t i j = slice_index_or t (i * n + j) none
 
 -- each of the places is below n
 abbrev pub Below : ℕ → List ℕ → Type 0
@@ -45,4 +45,4 @@ module _ {W : Type 0} (none : W) (choose join : W → W → W) where
   -- the table t where the way from i to j has been offered the one through k
   abbrev pub relaxed : ℕ → ℕ → ℕ → ℕ → List W → List W
   relaxed n k i j t =
-      set t (i * n + j) (choose (at none n t i j) (join (at none n t i k) (at none n t k j)))
+      slice_set t (i * n + j) (choose (at none n t i j) (join (at none n t i k) (at none n t k j)))

@@ -5,15 +5,15 @@ use Rattle.std.proofs.lemmas.Option.{slice_get-get_or as nth-getD, slice_get_pas
 use Rattle.std.proofs.lemmas.Bool.{cases_lt}
 use Rattle.std.specs.List.{slice_get}
 
-pub nth-some : {A : Type 0} (xs : List A) (i : ℕ) (x d : A) → Some x ≡ slice_get xs i → (i < length xs) × (x ≡ get_or xs i d)
-nth-some xs i x d e =
+pub slice_get-some : {A : Type 0} (xs : List A) (i : ℕ) (x d : A) → Some x ≡ slice_get xs i → (i < length xs) × (x ≡ get_or xs i d)
+slice_get-some xs i x d e =
     ⊎_elim
     (λ lt. (lt, let s = e ∙ nth-getD xs i d lt in cc))
     (λ ge. let s = e ∙ nth_past xs i ge in let z : ◌≡◌ {A = ℕ} 0 1 = cc in absurd (omega arith))
     (cases_lt i (length xs))
 
-pub nth-none : {A : Type 0} (xs : List A) (i : ℕ) (d : A) → None ≡ slice_get xs i → (length xs ≤ i) × (d ≡ get_or xs i d)
-nth-none xs i d e =
+pub slice_get-none : {A : Type 0} (xs : List A) (i : ℕ) (d : A) → None ≡ slice_get xs i → (length xs ≤ i) × (d ≡ get_or xs i d)
+slice_get-none xs i d e =
     ⊎_elim
     (λ lt. let s = e ∙ nth-getD xs i d lt in let z : ◌≡◌ {A = ℕ} 0 1 = cc in absurd (omega arith))
     (λ ge. (ge, sym (get_or_past xs i d ge)))

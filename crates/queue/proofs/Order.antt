@@ -7,10 +7,10 @@ use Rattle.queue.proofs.Place.{put-before, put-behind}
 
 -- the records of an edited list
 
-pub in-nth : {A : Type 0} (z : A) (xs : List A) (i : ℕ) → slice_get xs i ≡ Some z → In z xs
-in-nth z [] i h = let no : ◌≡◌ {A = ℕ} 0 1 = cc in absurd (omega arith)
-in-nth z (y ∷ ys) zero h = inl cc
-in-nth z (y ∷ ys) (suc i) h = inr (in-nth z ys i h)
+pub in-slice_get : {A : Type 0} (z : A) (xs : List A) (i : ℕ) → slice_get xs i ≡ Some z → In z xs
+in-slice_get z [] i h = let no : ◌≡◌ {A = ℕ} 0 1 = cc in absurd (omega arith)
+in-slice_get z (y ∷ ys) zero h = inl cc
+in-slice_get z (y ∷ ys) (suc i) h = inr (in-slice_get z ys i h)
 
 pub in-removed : {A : Type 0} (z : A) (xs : List A) (i : ℕ) → In z (remove xs i) → In z xs
 in-removed z [] zero h = h

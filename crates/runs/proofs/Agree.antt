@@ -127,12 +127,12 @@ flip : (xs ys : List Firing) (a t : ℕ) → Same xs ys a t → Same ys xs a t
 flip xs ys a t h g p q = let w = h g p q in (w.1, w.0)
 
 module _ (l : Line) (sound : Sound l) (m : Meaning) where
-  abbrev Rank : ℕ → ℕ
-  Rank a = rank l sound a
+  abbrev rank_of : ℕ → ℕ
+  rank_of a = rank l sound a
 
   -- two runs: what they agree on before (a, t), where both are settled
   abbrev Before : {ys zs : List Arrival} {xs us : List Firing} → Sol l m ys xs → Sol l m zs us → ℕ → ℕ → Type 0
-  Before {xs = xs} {us = us} X Y a t = (b u : ℕ) → Earlier Rank b u a t → X.Settled b u → Y.Settled b u →
+  Before {xs = xs} {us = us} X Y a t = (b u : ℕ) → Earlier rank_of b u a t → X.Settled b u → Y.Settled b u →
       Same xs us b u
 
   swap : {ys zs : List Arrival} {xs us : List Firing} (X : Sol l m ys xs) (Y : Sol l m zs us) (a t : ℕ) →
@@ -163,13 +163,13 @@ module _ (l : Line) (sound : Sound l) (m : Meaning) where
           (subst (λ u. Z.Settled e.actor u) h.sends.time
           (subst (λ b. Z.Settled b e.timestamp) (sym p) (subst (λ u. Z.Settled a u) (sym q) γ)))
 
-      sooner : Earlier Rank g.actor g.timestamp a t
+      sooner : Earlier rank_of g.actor g.timestamp a t
       sooner = elim (cases_eq (delay l.plan g.actor h.sends.outlet) 0) [
         | inl z ↦
             let way : Path l.plan g.actor e.actor (delay l.plan g.actor h.sends.outlet) = hop
             h.sends.outlet e.inlet (leads l.plan sound.lawful g.actor h.sends.outlet _
             h.sends.sink) in
-            inr (omega (arith, h.sends.time), omega (arith, ap Rank p, rank_rises l sound way z))
+            inr (omega (arith, h.sends.time), omega (arith, ap rank_of p, rank_rises l sound way z))
         | inr z ↦ inl (omega (arith, h.sends.time))
       ]
 
@@ -245,9 +245,9 @@ module _ (l : Line) (sound : Sound l) (m : Meaning) where
       ((y : Arrival) → In y ys → In y zs) → ((y : Arrival) → In y zs → In y ys) → (t a : ℕ) → X.Settled a t →
       Y.Settled a t → Same xs us a t
   agree_at {ys} {zs} {xs} {us} X Y s s' = strong (λ t. (a : ℕ) → X.Settled a t → Y.Settled a t → Same xs us a t)
-      (λ t ih a. strong (λ q. (a : ℕ) → Rank a ≡ q → X.Settled a t → Y.Settled a t → Same xs us a t)
+      (λ t ih a. strong (λ q. (a : ℕ) → rank_of a ≡ q → X.Settled a t → Y.Settled a t → Same xs us a t)
       (λ q jh a e. step t a (λ b u k. elim k
-      [ inl k ↦ ih u k b | inr k ↦ rw k.0 (jh (Rank b) (omega arith) b refl) ])) (Rank a) a refl)
+      [ inl k ↦ ih u k b | inr k ↦ rw k.0 (jh (rank_of b) (omega arith) b refl) ])) (rank_of a) a refl)
     where
       step : (t a : ℕ) → Before X Y a t → X.Settled a t → Y.Settled a t → Same xs us a t
       step t a ih α β g p q = (one_way X Y a t s s' α β ih g p q, one_way Y X a t s' s β α (swap X Y a t ih) g p q)

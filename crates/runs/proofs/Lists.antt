@@ -27,19 +27,19 @@ pub append_right : {A : Type 0} (xs ys : List A) (x : A) → In x ys → In x (x
 append_right [] ys x m = m
 append_right (y ∷ xs) ys x m = inr (append_right xs ys x m)
 
-pub in-joined : {X A : Type 0} (f : X → List A) (xs : List X) (y : A) → In y (flat_map f xs) →
+pub in-flat_map : {X A : Type 0} (f : X → List A) (xs : List X) (y : A) → In y (flat_map f xs) →
     (x : X) × In x xs × In y (f x)
-in-joined f [] y m = absurd m
-in-joined f (x ∷ xs) y m = elim (in-append (f x) (flat_map f xs) y m) [
+in-flat_map f [] y m = absurd m
+in-flat_map f (x ∷ xs) y m = elim (in-append (f x) (flat_map f xs) y m) [
   | inl l ↦ (x, inl refl, l)
-  | inr l ↦ let h = in-joined f xs y l in (h.0, inr h.1, h.2)
+  | inr l ↦ let h = in-flat_map f xs y l in (h.0, inr h.1, h.2)
 ]
 
-pub joined_in : {X A : Type 0} (f : X → List A) (xs : List X) (y : A) (x : X) → In x xs → In y (f x) →
+pub flat_map_in : {X A : Type 0} (f : X → List A) (xs : List X) (y : A) (x : X) → In x xs → In y (f x) →
     In y (flat_map f xs)
-joined_in f [] y x m l = absurd m
-joined_in {X} {A} f (z ∷ xs) y x (inl e) l = append_left (f z) (flat_map f xs) y (subst (λ (z : X). In y (f z)) e l)
-joined_in f (z ∷ xs) y x (inr m) l = append_right (f z) (flat_map f xs) y (joined_in f xs y x m l)
+flat_map_in f [] y x m l = absurd m
+flat_map_in {X} {A} f (z ∷ xs) y x (inl e) l = append_left (f z) (flat_map f xs) y (subst (λ (z : X). In y (f z)) e l)
+flat_map_in f (z ∷ xs) y x (inr m) l = append_right (f z) (flat_map f xs) y (flat_map_in f xs y x m l)
 
 pub in_map : {A B : Type 0} (f : A → B) (xs : List A) (y : B) → In y (map f xs) → (x : A) × In x xs × (y ≡ f x)
 in_map f [] y m = absurd m
@@ -174,12 +174,12 @@ pairs-append R (x ∷ xs) ys h k c = (
 )
 
 -- the lists that are joined come from elements that differ
-pub pairs-joined : {X A : Type 0} (R : A → A → Type 0) (D : X → X → Type 0) (f : X → List A) (xs : List X) →
+pub pairs-flat_map : {X A : Type 0} (R : A → A → Type 0) (D : X → X → Type 0) (f : X → List A) (xs : List X) →
     Pairs D xs → ((x : X) → Pairs R (f x)) →
     ((x y : X) → D x y → (a b : A) → In a (f x) → In b (f y) → R a b) → Pairs R (flat_map f xs)
-pairs-joined R D f [] d h c = tt
-pairs-joined R D f (x ∷ xs) d h c = pairs-append R (f x) (flat_map f xs) (h x) (pairs-joined R D f xs d.1 h c)
-    (λ a m b l. let w = in-joined f xs b l in c x w.0 (d.0 w.0 w.1) a b m w.2)
+pairs-flat_map R D f [] d h c = tt
+pairs-flat_map R D f (x ∷ xs) d h c = pairs-append R (f x) (flat_map f xs) (h x) (pairs-flat_map R D f xs d.1 h c)
+    (λ a m b l. let w = in-flat_map f xs b l in c x w.0 (d.0 w.0 w.1) a b m w.2)
 
 pub in-reverse : {A : Type 0} (xs : List A) (x : A) → In x (reverse xs) → In x xs
 in-reverse [] x m = m

@@ -127,11 +127,11 @@ module _ (l : Line) (sound : Sound l) where
       top-none : (fs : List Running) (d : ℕ) → fs ≡ [] → not_sooner l fs d ≡ None
       top-none fs d e = rw e refl
 
-      Rank : Event → ℕ
-      Rank e = rank l sound e.actor
+      rank_of : Event → ℕ
+      rank_of e = rank l sound e.actor
 
-      h : (m : Event) × In m s.events × Each (λ (y : Event). Before event_time Rank m y) s.events
-      h = first-in event_time Rank e s.events m
+      h : (m : Event) × In m s.events × Each (λ (y : Event). Before event_time rank_of m y) s.events
+      h = first-in event_time rank_of e s.events m
 
       x : Event
       x = h.0

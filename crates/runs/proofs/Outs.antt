@@ -14,7 +14,7 @@ use Rattle.runs.specs.Calls.{output_of}
 use Rattle.runs.specs.declared.records.Running.{Running}
 use Rattle.runs.specs.declared.records.Firing.{Firing}
 use Rattle.runs.specs.declared.records.Output.{Output}
-use Rattle.runs.proofs.Lists.{each-cons, in-put-all, put-all-in, each-put-all, pairs-put-all, pairs-if, pairs-joined}
+use Rattle.runs.proofs.Lists.{each-cons, in-put-all, put-all-in, each-put-all, pairs-put-all, pairs-if, pairs-flat_map}
 use Rattle.runs.proofs.Lists.{in-out, out-in, out-there, out-pairs, out-each, Falls}
 use Rattle.runs.proofs.Wiring.{leads, one-source}
 use Rattle.runs.proofs.Sending.{SendsOut, sent-out, sends-out-in, in-output_at}
@@ -50,7 +50,7 @@ module _ (p : Plan) (law : Lawful p) where
 
   -- what one firing sends goes to different actuators
   pub sent-elsewhere : (g : Firing) → Pairs Elsewhere (outputs_sent p g)
-  sent-elsewhere g = pairs-joined Elsewhere (λ (a b : ℕ). a ≡ b → ⊥) (output_from p g) ports (
+  sent-elsewhere g = pairs-flat_map Elsewhere (λ (a b : ℕ). a ≡ b → ⊥) (output_from p g) ports (
     each-cons (λ b. 0 ≡ b → ⊥) 1 (2 ∷ (3 ∷ [])) (λ e. omega arith)
         (each-cons (λ b. 0 ≡ b → ⊥) 2 (3 ∷ []) (λ e. omega arith) (each-cons (λ b. 0 ≡ b → ⊥) 3 [] (λ e. omega arith)
         (λ b n. absurd n))),

@@ -14,7 +14,7 @@ use Rattle.runs.specs.Runs.{Arrival}
 use Rattle.runs.specs.declared.records.Event.{Event}
 use Rattle.runs.specs.declared.records.Firing.{Firing}
 use Rattle.runs.specs.declared.records.Output.{Output}
-use Rattle.runs.proofs.Lists.{in-joined, joined_in}
+use Rattle.runs.proofs.Lists.{in-flat_map, flat_map_in}
 use Rattle.runs.proofs.Wiring.{leads, proper}
 
 pub event-path : (e f : Event) → e.actor ≡ f.actor → e.inlet ≡ f.inlet → e.timestamp ≡ f.timestamp →
@@ -92,35 +92,35 @@ in-ports (suc (suc (suc (suc o)))) l = absurd (omega arith)
 
 pub sent : (p : Plan) (g : Firing) → Each (Sends p g) (events_sent p g)
 sent p g e m =
-    let h = in-joined (event_from p g) ports e m in
+    let h = in-flat_map (event_from p g) ports e m in
     let w = in-event_at _ _ _ e h.2 in
     record { outlet = h.0; sink = w.0; value = w.1; time = w.2 }
 
 pub sent-out : (p : Plan) (g : Firing) → Each (SendsOut p g) (outputs_sent p g)
 sent-out p g e m =
-    let h = in-joined (output_from p g) ports e m in
+    let h = in-flat_map (output_from p g) ports e m in
     let w = in-output_at _ _ _ e h.2 in
     record { outlet = h.0; sink = w.0; value = w.1; time = w.2 }
 
 module _ (p : Plan) (law : Lawful p) where
   pub sends-in : (g : Firing) (e : Event) → Sends p g e → In e (events_sent p g)
-  sends-in g e h = joined_in (event_from p g) ports e h.outlet
+  sends-in g e h = flat_map_in (event_from p g) ports e h.outlet
       (in-ports h.outlet (proper p law (leads p law _ _ _ h.sink)).source.1)
       (event_at-in _ _ _ e h.sink h.value h.time)
 
   pub sends-out-in : (g : Firing) (o : Output) → SendsOut p g o → In o (outputs_sent p g)
-  sends-out-in g e h = joined_in (output_from p g) ports e h.outlet
+  sends-out-in g e h = flat_map_in (output_from p g) ports e h.outlet
       (in-ports h.outlet (proper p law (leads p law _ _ _ h.sink)).source.1)
       (output_at-in _ _ _ e h.sink h.value h.time)
 
 -- room and time -----------------------------------------------------------------------
 
-joined-few : {A : Type 0} (f : ℕ → List A) (test : ℕ → Bool) → ((o : ℕ) → length (f o) ≤ cond (test o) 1 0) →
+flat_map-few : {A : Type 0} (f : ℕ → List A) (test : ℕ → Bool) → ((o : ℕ) → length (f o) ≤ cond (test o) 1 0) →
     (os : List ℕ) →
     length (flat_map f os) ≤ length (keep test os)
-joined-few f test h [] = omega arith
-joined-few {A} f test h (o ∷ os) =
-    let ih = joined-few f test h os in
+flat_map-few f test h [] = omega arith
+flat_map-few {A} f test h (o ∷ os) =
+    let ih = flat_map-few f test h os in
     let n = length-append (f o) (flat_map f os) in
     elim (test o) as (λ b. length (f o) ≤ cond b 1 0 → length (f o ++ flat_map f os) ≤ length
     (cond b (o ∷ keep test os) (keep test os))) [
@@ -141,11 +141,11 @@ output-few (Some (Actuator q)) t None = omega arith
 output-few (Some (Actuator q)) t (Some v) = omega arith
 
 pub few-events : (p : Plan) (g : Firing) → length (events_sent p g) ≤ leading to_inlet p g.actor
-few-events p g = joined-few (event_from p g) (λ o. to_inlet (wire p g.actor o))
+few-events p g = flat_map-few (event_from p g) (λ o. to_inlet (wire p g.actor o))
     (λ o. event-few (wire p g.actor o) (g.timestamp + delay p g.actor o) (port g.outlets o)) ports
 
 pub few-outputs : (p : Plan) (g : Firing) → length (outputs_sent p g) ≤ leading to_actuator p g.actor
-few-outputs p g = joined-few (output_from p g) (λ o. to_actuator (wire p g.actor o))
+few-outputs p g = flat_map-few (output_from p g) (λ o. to_actuator (wire p g.actor o))
     (λ o. output-few (wire p g.actor o) (g.timestamp + delay p g.actor o) (port g.outlets o)) ports
 
 -- no wired outlet adds more than the longest delay

@@ -218,8 +218,8 @@ tell {A} xs ys new zs p q =
     ap (λ (k : List A). k ++ new) p ∙ ap (λ (k : List A). reverse ys ++ k) (sym (reverse-reverse new))
     ∙ sym (reverse-append (reverse new) ys) ∙ ap reverse (sym q)
 
-joined-last : {A : Type 0} (f : Step → List A) (h : Journal) (x : Step) → flat_map f (h ++ (x ∷ [])) ≡ flat_map f h ++ f x
-joined-last f h x = sym (flat_map_more f [] h x)
+flat_map-last : {A : Type 0} (f : Step → List A) (h : Journal) (x : Step) → flat_map f (h ++ (x ∷ [])) ≡ flat_map f h ++ f x
+flat_map-last f h x = sym (flat_map_more f [] h x)
 
 clock-last : (c : ℕ) (h : Journal) (x : Step) → clock_after c (h ++ (x ∷ [])) ≡ tick (clock_after c h) x.call
     x.answer
@@ -267,13 +267,13 @@ tale l sound {m} (next {h} {s} {s'} x r e) =
     let o = onward l sound m i.run x.call x.answer s' e in
     record {
       run = o.run;
-      came = joined-last (λ x. arrival_in x.call x.answer) h x ∙ tell (arrivals h) (came i.run)
+      came = flat_map-last (λ x. arrival_in x.call x.answer) h x ∙ tell (arrivals h) (came i.run)
           (arrival_in x.call x.answer) _ i.came o.came;
-      begun = joined-last (λ x. start_in x.answer) h x ∙ tell (starts h) (map (began l) (begun i.run))
+      begun = flat_map-last (λ x. start_in x.answer) h x ∙ tell (starts h) (map (began l) (begun i.run))
           (start_in x.answer) _ i.begun o.begun;
-      log = joined-last (λ x. firing_in x.answer) h x ∙ tell (written h) (log i.run) (firing_in x.answer) _
+      log = flat_map-last (λ x. firing_in x.answer) h x ∙ tell (written h) (log i.run) (firing_in x.answer) _
           i.log o.log;
-      gone = joined-last (λ x. output_in x.answer) h x ∙ tell (handed h) (gone i.run) (output_in x.answer) _
+      gone = flat_map-last (λ x. output_in x.answer) h x ∙ tell (handed h) (gone i.run) (output_in x.answer) _
           i.gone o.gone;
       clock = clock-last 0 h x ∙ ap (λ c. tick c x.call x.answer) i.clock ∙ sym o.clock;
       posted = postings-last l.plan 0 h x

@@ -1,5 +1,5 @@
 -- The calls: when each is refused and where, what it answers, and the state it leaves.
-use Rattle.std.specs.Prelude.{◌≡◌, ℕ, ◌+◌, ◌<◌, ◌≤◌, Bool, true, false, cond, not, ◌&&◌, ltb, ◌⊎◌, List, [], ◌∷◌, length, ℤ, pos, negsuc, ◌+ℤ◌, is_some, Some, None, Option, int_le, nat_le, nat_lt}
+use Rattle.std.specs.Prelude.{◌≡◌, ℕ, ◌+◌, ◌<◌, ◌≤◌, Bool, true, false, cond, not, ◌&&◌, ◌⊎◌, List, [], ◌∷◌, length, ℤ, pos, negsuc, ◌+ℤ◌, is_some, Some, None, Option, int_le, nat_le, nat_lt}
 use Rattle.std.specs.Option.{unwrap_or}
 use Rattle.fault.specs.declared.Fault.{Fault}
 use Rattle.fault.specs.declared.RunCause.{RunCause}
@@ -107,7 +107,7 @@ arrive_after l s x t v = after (arrive_verdict l s x t) s (arrived l s x t v)
 
 -- the least timestamp of an output that is due before clock c
 abbrev pub due_before : ℕ → List Output → Option ℕ
-due_before c os = least output_time (keep (λ o. ltb o.timestamp c) os)
+due_before c os = least output_time (keep (λ o. nat_lt o.timestamp c) os)
 
 -- the clock may stay as it is, unless an output is due before it
 abbrev pub advance_checks : State → ℕ → List Check

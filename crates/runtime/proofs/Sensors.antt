@@ -6,10 +6,10 @@ use Rattle.runs.specs.Lists.{changed}
 use Rattle.runtime.specs.declared.rows.SensorRow.{SensorRow}
 use Rattle.runtime.specs.Meant.{no_sensor, lateness_at, last_at}
 
-pub nth-or : (xs : List ℕ) (k : ℕ) → unwrap_or (slice_get xs k) 0 ≡ get_or xs k 0
-nth-or [] k = refl
-nth-or (x ∷ xs) zero = refl
-nth-or (x ∷ xs) (suc k) = nth-or xs k
+pub slice_get-or : (xs : List ℕ) (k : ℕ) → unwrap_or (slice_get xs k) 0 ≡ get_or xs k 0
+slice_get-or [] k = refl
+slice_get-or (x ∷ xs) zero = refl
+slice_get-or (x ∷ xs) (suc k) = slice_get-or xs k
 
 -- a table with another row at x
 pub set-row : (xs : List SensorRow) (x : ℕ) (r : SensorRow) (k : ℕ) → x < length xs →

@@ -6,7 +6,7 @@ use Rattle.line.specs.Plan.{lateness}
 use Rattle.project.specs.Project.{plan}
 use Rattle.runtime.specs.Meant.{no_sensor}
 use Rattle.runtime.specs.declared.rows.SensorRow.{SensorRow}
-use Rattle.runtime.proofs.Sensors.{nth-or, set-lateness, set_last}
+use Rattle.runtime.proofs.Sensors.{slice_get-or, set-lateness, set_last}
 use Rattle.runtime.proofs.opening.sensor_rows.Goals as goal
 
 pub loop-x-preserved : goal.loop-x-preserved
@@ -14,7 +14,7 @@ loop-x-preserved c =
     let x = c.loop-x.x in
     let inside : c.loop-x.x < length c.loop-x.rows = omega (arith, c.loop-x.invariant.0) in
     let row = c.first_row.result in
-    let value : row.lateness ≡ lateness (plan c.args.project.now) c.loop-x.x = ap (λ (r : SensorRow). r.lateness) c.first_row.ensures ∙ ap (λ v. unwrap_or v 0) c.lateness.ensures ∙ nth-or _ x in
+    let value : row.lateness ≡ lateness (plan c.args.project.now) c.loop-x.x = ap (λ (r : SensorRow). r.lateness) c.first_row.ensures ∙ ap (λ v. unwrap_or v 0) c.lateness.ensures ∙ slice_get-or _ x in
     let silent : row.last ≡ None = ap (λ (r : SensorRow). r.last) c.first_row.ensures in (
       length-set _ _ _ ∙ c.loop-x.invariant.0,
       (λ k h. set-lateness _ x row inside k ∙ elim (cases_eq k x) [
