@@ -7,3 +7,4 @@ pub mod Tops
 pub mod Picks
 pub mod Posts
 pub mod Finishes
+pub mod Performs

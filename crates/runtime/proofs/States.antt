@@ -1,14 +1,12 @@
 -- States that are equal, and what the invariant of a runtime gives.
-use Rattle.std.proofs.Common.{◌≡◌, ℕ, ◌+◌, ◌<◌, ◌≤◌, Bool, true, false, cond, not, ltb, List, [], ◌∷◌, ◌++◌, length, set, ℤ, Some, None, Option, refl, ap, ◌∙◌, subst, arith}
+use Rattle.std.proofs.Common.{◌≡◌, ℕ, ◌<◌, ◌≤◌, Bool, true, cond, not, ltb, List, [], ◌∷◌, ◌++◌, length, set, ℤ, Some, None, Option, refl, ap, ◌∙◌, subst, arith}
 use mathlib.Core.Path.{fun_ext}
 use Rattle.std.proofs.lemmas.List.{reverse-append}
 use mathlib.Core.Logic.{∥∥₁_map, ∥∥₁_elim, ∥∥₁_prop}
 use native.Mathlib.Bridge.{le_prop}
 use Rattle.std.proofs.lemmas.Bool.{ltb-false}
 use Rattle.line.specs.Times.{Line, Sound}
-use Rattle.line.specs.declared.parts.Sink.{Sink}
-use Rattle.runs.proofs.Sending.{event-few}
-use Rattle.runs.specs.State.{to_inlet, State, fresh, advanced, arrived, started, taken, four, value_for, output_time, event_time, event_at}
+use Rattle.runs.specs.State.{State, fresh, advanced, arrived, started, taken, four, value_for, output_time, event_time, event_at}
 use Rattle.runs.specs.Lists.{keep, put_all}
 use Rattle.line.specs.Plan.{feed}
 use Rattle.line.specs.Lists.{In}
@@ -89,16 +87,8 @@ secure-arrived l sound s x t v live e i =
     ∥∥₁_elim sound ∥∥₁_prop (λ k. ∥∥₁_map i (safe-arrive l k s x t v live (arrives l s x t e)))
 
 -- an accepted arrival finds room
-pub arrive_room : (l : Line) (s : State) (x t : ℕ) → arrive_verdict l s x t ≡ None → (k : Option Sink) (u : ℕ) (v : Option ℤ)
-    (es : List Event) → es ≡ event_at k u v → length s.events + length es ≤ 128
-arrive_room l s x t free k u v es e =
-    let room = (arrives l s x t free).room in
-    let few = one_at_most (to_inlet k) in
-    let most = event-few k u v in
-    let same = ap length e in omega arith
-  where
-    one_at_most : (b : Bool) → cond b 1 0 ≤ 1
-    one_at_most b = elim b as (λ b. cond b 1 0 ≤ 1) [ true ↦ omega arith | false ↦ omega arith ]
+pub arrive_room : (l : Line) (s : State) (x t : ℕ) → arrive_verdict l s x t ≡ None → length s.events < 128
+arrive_room l s x t free = let room = (arrives l s x t free).room in omega arith
 
 -- an event that waits is at an actor of the line
 pub event-inside : (l : Line) (s : State) (es : List Event) (e : Event) → es ≡ s.events → In e es → Secure l s →

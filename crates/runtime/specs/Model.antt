@@ -4,6 +4,7 @@ use Rattle.bounded.specs.Held as bounded
 use Rattle.queue.specs.Held as queue
 use Rattle.project.specs.Project.{line, plan}
 use Rattle.project.specs.declared.project.Project.{Project}
+use Rattle.banks.specs.Meaning as banks
 use Rattle.banks.specs.Meaning.{Meaning}
 use Rattle.runs.specs.Lists.{changed}
 use Rattle.runs.specs.State.{State, fresh, started, unstacked, closed, firing_of}
@@ -17,6 +18,13 @@ use Rattle.runtime.specs.Meant.{state_of, top_first}
 use Rattle.runtime.specs.declared.state.Core.{Core}
 use Rattle.runtime.specs.declared.runtime.Inner.{Inner}
 
+-- what a bank means, in the words of a run
+abbrev pub meaning : banks.Meaning → Meaning
+meaning m = record {
+  rows = m.rows;
+  reaction = λ a w t g. record { row = (m.reaction a w t g).row; outlets = (m.reaction a w t g).outlets };
+}
+
 -- all of a runtime but its bank, over the rows w
 abbrev pub state_over : Core → (ℕ → List ℤ) → State
 state_over c w = state_of c.clock c.taking c.sensors (queue.held c.events) (bounded.held c.stack) (queue.held c.outputs) w
@@ -25,7 +33,7 @@ state_over c w = state_of c.clock c.taking c.sensors (queue.held c.events) (boun
 abbrev pub stacked : Core → List Running
 stacked c = top_first (bounded.held c.stack)
 
-abbrev pub state : {B : Type 0} → (B → Meaning) → Inner B → State
+abbrev pub state : {B : Type 0} → (B → banks.Meaning) → Inner B → State
 state means i = state_over i.core (means i.bank).rows
 
 -- a runtime opened on a project
@@ -35,10 +43,10 @@ pub record Begins (p : Project) (c : Core) : Type 0 where
   pub state : (m : Meaning) → state_over c m.rows ≡ fresh m
 
 -- and over a bank
-pub record Opened {B : Type 0} (means : B → Meaning) (p : Project) (b : B) (i : Inner B) : Type 0 where
+pub record Opened {B : Type 0} (means : B → banks.Meaning) (p : Project) (b : B) (i : Inner B) : Type 0 where
   pub project : i.core.project ≡ p
   pub bank : i.bank ≡ b
-  pub state : state means i ≡ fresh (means b)
+  pub state : state means i ≡ fresh (meaning (means b))
 
 -- a call that leaves the bank alone, answered r, took i to j, whatever the bank
 pub record Moves (i : Core) (c : Call) (r : Answer) (j : Core) : Type 0 where
@@ -75,9 +83,16 @@ Unwritten (Handed d) = Unit {0}
 Unwritten (Told r) = Unit {0}
 Unwritten (Refused f) = Unit {0}
 
--- a call, answered r, took i to j: an outcome that the definitions of the calls allow, over the same project and by the
--- same reaction; and unless a firing was written the bank is as it was
-pub record Does {B : Type 0} (means : B → Meaning) (i : Inner B) (c : Call) (r : Answer) (j : Inner B) : Type 0 where
+-- a call, answered r, took i to j: an outcome that the definitions of the calls allow, over the same project and the
+-- same bank
+pub record Does {B : Type 0} (means : B → banks.Meaning) (i : Inner B) (c : Call) (r : Answer) (j : Inner B) : Type 0 where
+  pub outcome : Outcome (line i.core.project) (meaning (means i.bank)) (state means i) c r (state means j)
+  pub project : j.core.project ≡ i.core.project
+  pub bank : j.bank ≡ i.bank
+
+-- a call that may write a firing, and so a row of the bank, answered r, took i to j: an outcome that the definitions of
+-- the calls allow, over the same project and by the same reaction; and unless a firing was written the bank is as it was
+pub record Performs {B : Type 0} (means : B → Meaning) (i : Inner B) (c : Call) (r : Answer) (j : Inner B) : Type 0 where
   pub outcome : Outcome (line i.core.project) (means i.bank) (state means i) c r (state means j)
   pub project : j.core.project ≡ i.core.project
   pub reaction : (means j.bank).reaction ≡ (means i.bank).reaction

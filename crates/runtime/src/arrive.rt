@@ -9,7 +9,7 @@ ghost use Rattle.runtime.specs.Model.{Moves, state_over};
 
 use super::limits::EVENT_ROOM;
 use super::rows::SensorRow;
-use super::sending::{event_at, post};
+use super::sending::send_event;
 use super::state::Core;
 use fault::{Fault, RunCause};
 
@@ -54,8 +54,7 @@ impl Core {
         }
         self.sensors[sensor as usize].last = Some(timestamp);
         let sink = self.project.feed(sensor as u8);
-        let event = event_at(sink, timestamp, Some(value));
-        post(&mut self.events, event);
+        send_event(&mut self.events, sink, timestamp, Some(value));
         Ok(())
     }
 }

@@ -13,7 +13,7 @@ use queue::{Queue, Ranked};
 use runs::records::{Event, Firing, Output};
 
 // The event that a value makes at the end of its channel, where that is an inlet.
-pub(crate) fn event_at(sink: Option<Sink>, timestamp: u64, value: Option<i32>) -> Option<Event>
+fn event_at(sink: Option<Sink>, timestamp: u64, value: Option<i32>) -> Option<Event>
     ensures { listed result ≡ event_at sink timestamp value }
 {
     let Some(Sink::Inlet { actor, inlet }) = sink else {
@@ -44,13 +44,26 @@ fn output_at(sink: Option<Sink>, timestamp: u64, value: Option<i32>) -> Option<O
 }
 
 // Puts a record, if there is one, where its rank belongs.
-pub(crate) fn post<T: Ranked, const N: usize>(queue: &mut Queue<T, N>, item: Option<T>)
+fn post<T: Ranked, const N: usize>(queue: &mut Queue<T, N>, item: Option<T>)
     requires { length (held queue.old) + length (listed item) ≤ N }
     ensures { held queue.new ≡ put_all T.Ranked.order (listed item) (held queue.old) }
 {
     if let Some(item) = item {
         let _ = queue.insert(item);
     }
+}
+
+// Puts the event that a value makes at the end of its channel, where that is an inlet.
+pub(crate) fn send_event(
+    events: &mut Queue<Event, 128>,
+    sink: Option<Sink>,
+    timestamp: u64,
+    value: Option<i32>,
+)
+    requires { length (held events.old) < 128 }
+    ensures { held events.new ≡ put_all event_time (event_at sink timestamp value) (held events.old) }
+{
+    post(events, event_at(sink, timestamp, value));
 }
 
 // Sends what a firing gave at one outlet along its channel.

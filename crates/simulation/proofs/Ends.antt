@@ -13,6 +13,7 @@ use Rattle.runs.specs.declared.records.Answer.TheVariants.{Told, Done}
 use Rattle.runs.specs.declared.records.Status.{Status}
 use Rattle.runtime.specs.Model.{Does, Opened, state}
 use Rattle.runtime.specs.declared.runtime.Inner.{Inner}
+use Rattle.runtime.proofs.Performs.{performs}
 use Rattle.simulation.specs.Calls.{existing}
 use Rattle.simulation.specs.Journals.{Worked, called, closing}
 use Rattle.simulation.specs.Performed.{Ended, Ran, Tells}
@@ -44,7 +45,7 @@ module _ {B : Type 0} (means : B → Meaning) where
   pub closed-worked : (i : Inner B) (h : Journal) (j n : Inner B) (k : Journal) → Does means i Close Done j →
       Worked means j (h ++ closing ∷ []) n k → Worked means i h n k
   closed-worked i h j n k d w =
-      let c = worked-step means i h i h Close Done j (h ++ closing ∷ []) (worked-none means i h) d refl in
+      let c = worked-step means i h i h Close Done j (h ++ closing ∷ []) (worked-none means i h) (performs d) refl in
       record {
         runs = λ m e r. subst (λ (p : Project). Runs (line p) m k (state means n)) c.project
             (w.runs m (e ∙ sym c.reaction) (subst (λ (p : Project). Runs (line p) m (h ++ closing ∷ []) (state means j)) (sym c.project) (c.runs m e r)));

@@ -14,7 +14,7 @@ use Rattle.runs.specs.declared.records.Call.{Call}
 use Rattle.runs.specs.declared.records.Call.TheVariants.{Arrive, Advance, Pick, Start, Finish, Deliver, Report, Close}
 use Rattle.runs.specs.declared.records.Answer.{Answer}
 use Rattle.runs.specs.declared.records.Step.{Step}
-use Rattle.runtime.specs.Model.{Does, state}
+use Rattle.runtime.specs.Model.{Performs, state}
 use Rattle.runtime.specs.declared.runtime.Inner.{Inner}
 use Rattle.simulation.specs.Calls.{existing, for_open_only, is_close, when_closed}
 use Rattle.simulation.specs.Journals.{Worked, called}
@@ -47,7 +47,7 @@ module _ {B : Type 0} (means : B → Meaning) where
   worked-none i h = record { runs = λ m e r. r; project = refl; reaction = refl }
 
   pub worked-step : (i : Inner B) (h : Journal) (j : Inner B) (k : Journal) (c : Call) (a : Answer) (n : Inner B) (k' : Journal) →
-      Worked means i h j k → Does means j c a n → k' ≡ k ++ record { call = c; answer = a } ∷ [] → Worked means i h n k'
+      Worked means i h j k → Performs means j c a n → k' ≡ k ++ record { call = c; answer = a } ∷ [] → Worked means i h n k'
   worked-step i h j k c a n k' w d e = record {
     runs = λ m q r.
         let last = outcome-by (line j.core.project) m (means j.bank) (state means j) c a (state means n)

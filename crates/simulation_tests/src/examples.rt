@@ -2,6 +2,7 @@
 use super::helpers::*;
 use fault::RunCause;
 use runs::records::{Answer, Call};
+use std::test::Fail;
 
 // A timestamp beyond the clock, one too old, one not above the last, and a sensor that is not there.
 #[test]

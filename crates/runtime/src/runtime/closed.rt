@@ -2,7 +2,7 @@ ghost use Rattle.std.specs.Prelude.{◌≡◌, false, is_ok};
 ghost use Rattle.runs.specs.declared.records.Call.TheVariants.{Advance, Pick, Start, Finish, Deliver, Report};
 ghost use Rattle.runs.specs.declared.records.Answer.TheVariants.{Told};
 ghost use Rattle.runtime.specs.Answers.{done, fired, handed, named, wrote};
-ghost use Rattle.runtime.specs.Model.{Does};
+ghost use Rattle.runtime.specs.Model.{Does, Performs};
 
 use super::{ClosedRuntime, Inner};
 use banks::bank::Bank;
@@ -41,7 +41,7 @@ impl<B: Bank> ClosedRuntime<B> {
 
     // Completes the top firing: lets it react, sends on what it gave, and writes it into `firing`.
     pub fn finish(&mut self, firing: &mut Firing) -> Result<(), Fault>
-        ensures does { Does B.Bank.means self.old.inner Finish (wrote result firing.new) self.new.inner }
+        ensures does { Performs B.Bank.means self.old.inner Finish (wrote result firing.new) self.new.inner }
         ensures refused { is_ok result ≡ false → firing.new ≡ firing.old }
     {
         self.inner.finish(firing)

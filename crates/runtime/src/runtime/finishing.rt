@@ -2,7 +2,7 @@ ghost use Rattle.std.specs.Prelude.{◌≡◌, false, is_ok};
 ghost use Rattle.banks.specs.Firing.{fired, next};
 ghost use Rattle.runs.specs.declared.records.Call.TheVariants.{Finish};
 ghost use Rattle.runtime.specs.Answers.{wrote};
-ghost use Rattle.runtime.specs.Model.{Does};
+ghost use Rattle.runtime.specs.Model.{Performs};
 
 use super::Inner;
 use crate::limits::NOTHING;
@@ -21,7 +21,7 @@ fn fire<B: Bank>(bank: &mut B, firing: &Running) -> [Option<i32>; 4]
 impl<B: Bank> Inner<B> {
     // Lets the top firing react, sends what it gave, and writes down what went in and what came out.
     pub(crate) fn finish(&mut self, firing: &mut Firing) -> Result<(), Fault>
-        ensures does { Does B.Bank.means self.old Finish (wrote result firing.new) self.new }
+        ensures does { Performs B.Bank.means self.old Finish (wrote result firing.new) self.new }
         ensures taking { self.new.core.taking ≡ self.old.core.taking }
         ensures refused { is_ok result ≡ false → firing.new ≡ firing.old }
     {

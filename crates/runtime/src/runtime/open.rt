@@ -3,7 +3,7 @@ ghost use Rattle.runs.specs.State.{fresh};
 ghost use Rattle.runs.specs.declared.records.Call.TheVariants.{Arrive, Advance, Pick, Start, Finish, Deliver, Report, Close};
 ghost use Rattle.runs.specs.declared.records.Answer.TheVariants.{Done, Told};
 ghost use Rattle.runtime.specs.Answers.{done, fired, handed, named, wrote};
-ghost use Rattle.runtime.specs.Model.{Does, Opened};
+ghost use Rattle.runtime.specs.Model.{Does, Opened, Performs};
 
 use super::{ClosedRuntime, Inner, OpenRuntime};
 use crate::state::Core;
@@ -63,7 +63,7 @@ impl<B: Bank> OpenRuntime<B> {
 
     // Completes the top firing: lets it react, sends on what it gave, and writes it into `firing`.
     pub fn finish(&mut self, firing: &mut Firing) -> Result<(), Fault>
-        ensures does { Does B.Bank.means self.old.inner Finish (wrote result firing.new) self.new.inner }
+        ensures does { Performs B.Bank.means self.old.inner Finish (wrote result firing.new) self.new.inner }
         ensures refused { is_ok result ≡ false → firing.new ≡ firing.old }
     {
         self.inner.finish(firing)

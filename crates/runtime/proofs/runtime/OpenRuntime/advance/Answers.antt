@@ -8,6 +8,5 @@ pub returns : goal.returns
 returns g c = record {
   outcome = c.advance.ensures.outcome (g.B.Bank.means c.args.self.now.inner.bank);
   project = c.advance.ensures.project;
-  reaction = refl;
-  bank = λ _. refl;
+  bank = refl;
 }

@@ -11,6 +11,5 @@ returns g c =
     record {
       outcome = simp (to_z-of_z w32 c.args.value c.ranges.value) at (c.arrive.ensures.outcome m);
       project = c.arrive.ensures.project;
-      reaction = refl;
-      bank = λ _. refl;
+      bank = refl;
     }

@@ -10,6 +10,5 @@ pub returns : goal.returns
 returns g c = record {
   outcome = (c.args.self.taking, refl, c.close.ensures.state (g.B.Bank.means c.args.self.inner.bank));
   project = c.close.ensures.project;
-  reaction = refl;
-  bank = λ _. refl;
+  bank = refl;
 }

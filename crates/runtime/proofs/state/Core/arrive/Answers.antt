@@ -1,10 +1,9 @@
-use Rattle.std.proofs.Common.{◌<◌, List, length, Some, sym, refl, ap, ◌∙◌, subst, ap₂, lit<, w32, to_z, of_z, rules}
+use Rattle.std.proofs.Common.{◌<◌, length, Some, sym, refl, ◌∙◌, subst, ap₂, w32, rules}
 use Rattle.std.proofs.lemmas.Int.{to_z-of_z}
 use Rattle.runs.specs.Lists.{put_all}
 use Rattle.runs.specs.State.{event_at, event_time, arrived}
 use Rattle.runs.specs.Calls.{arrive_verdict}
 use Rattle.runs.specs.declared.records.Answer.TheVariants.{Done}
-use Rattle.runs.specs.declared.records.Event.{Event}
 use Rattle.runs.specs.Safe.{Secure}
 use Rattle.bounded.specs.Held as bounded
 use Rattle.queue.specs.Held.{held}
@@ -22,7 +21,7 @@ invariant_of-self c =
     let t = c.args.timestamp in
     let value = to_z-of_z w32 c.args.value c.ranges.value in
     let inside : c.args.sensor < length c.args.self.now.sensors = search rules in
-    let sent = c.post.ensures ∙ ap (λ (es : List Event). put_all event_time es (held c.args.self.now.events)) c.event_at-event.ensures ∙ ap₂ (λ k v. put_all event_time (event_at k c.args.timestamp (Some v)) (held c.args.self.now.events)) c.feed-sink.ensures value in
+    let sent = c.send_event.ensures ∙ ap₂ (λ k v. put_all event_time (event_at k c.args.timestamp (Some v)) (held c.args.self.now.events)) c.feed-sink.ensures value in
     let free = sym c.arrive_fault.ensures ∙ c.in_default.is in
     let l = line c.args.self.now.project in
     let safe = secure-arrived l was.project.sound (state_over was no_rows) x t c.args.value c.requires free was.secure in
@@ -36,7 +35,7 @@ returns c =
     let t = c.args.timestamp in
     let value = to_z-of_z w32 c.args.value c.ranges.value in
     let inside : c.args.sensor < length c.args.self.now.sensors = search rules in
-    let sent = c.post.ensures ∙ ap (λ (es : List Event). put_all event_time es (held c.args.self.now.events)) c.event_at-event.ensures ∙ ap₂ (λ k v. put_all event_time (event_at k c.args.timestamp (Some v)) (held c.args.self.now.events)) c.feed-sink.ensures value in
+    let sent = c.send_event.ensures ∙ ap₂ (λ k v. put_all event_time (event_at k c.args.timestamp (Some v)) (held c.args.self.now.events)) c.feed-sink.ensures value in
     let free = sym c.arrive_fault.ensures ∙ c.in_default.is in
     record {
       outcome = λ m.
@@ -48,8 +47,8 @@ returns c =
       taking = refl;
     }
 
-pub post-requires : goal.post-requires
-post-requires c =
+pub send_event-requires : goal.send_event-requires
+send_event-requires c =
     let was = c.args.self.now in
     let free = sym c.arrive_fault.ensures ∙ c.in_default.is in
-    (lit< tt, arrive_room (line was.project) (state_over was no_rows) c.args.sensor c.args.timestamp free c.feed-sink.result c.args.timestamp (Some (to_z w32 (of_z w32 c.args.value))) _ c.event_at-event.ensures)
+    arrive_room (line was.project) (state_over was no_rows) c.args.sensor c.args.timestamp free
