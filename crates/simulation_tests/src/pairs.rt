@@ -3,6 +3,7 @@ use super::helpers::*;
 use journal::Comparison;
 use runs::records::Call;
 use simulation::compare;
+use std::test::Fail;
 
 // The interrupts come as early as they can, and each firing is finished before the next starts.
 fn prompt(value: i32) -> [Call; 17] {

@@ -2,6 +2,7 @@
 use super::helpers::*;
 use fault::RunCause;
 use runs::records::{Answer, Call, Delivered, Status};
+use std::test::Fail;
 
 #[test]
 fn to_the_second_firing(rt: HostRuntime) -> Result<(), Fail> {
