@@ -14,7 +14,7 @@ impl Span {
         Span { micros: u64::MAX }
     }
 
-    // So many microseconds.
+    // So many microseconds. No plainer as a `From<u32>`: the name tells the unit at each call.
     pub fn micros(count: u32) -> Span
         ensures { length_of result ≡ Some count }
     {
