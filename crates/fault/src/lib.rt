@@ -77,191 +77,188 @@ impl Layer {
     }
 }
 
+// One line of the table of refusals.
+#[derive(Clone, Copy)]
+struct Entry {
+    number: u8,
+    name: &'static str,
+    words: &'static str,
+}
+
 impl BytesCause {
-    fn number(self) -> u8
-        ensures { result ≡ (of_bytes self).number }
+    fn entry(self) -> Entry
+        ensures number { result.number ≡ (of_bytes self).number }
+        ensures name { result.name.now ≡ (of_bytes self).name }
+        ensures words { result.words.now ≡ (of_bytes self).words }
     {
         match self {
-            BytesCause::Head => 1,
-            BytesCause::Count => 2,
-            BytesCause::Length => 3,
-        }
-    }
-
-    fn name(self) -> &'static str
-        ensures { result.now ≡ (of_bytes self).name }
-    {
-        match self {
-            BytesCause::Head => "Head",
-            BytesCause::Count => "Count",
-            BytesCause::Length => "Length",
-        }
-    }
-
-    fn words(self) -> &'static str
-        ensures { result.now ≡ (of_bytes self).words }
-    {
-        match self {
-            BytesCause::Head => "the image does not begin with LIN, version 1 and four counts",
-            BytesCause::Count => "a count is out of range",
-            BytesCause::Length => "the image has another length than its counts ask for",
+            BytesCause::Head => Entry {
+                number: 1,
+                name: "Head",
+                words: "the image does not begin with LIN, version 1 and four counts",
+            },
+            BytesCause::Count => Entry {
+                number: 2,
+                name: "Count",
+                words: "a count is out of range",
+            },
+            BytesCause::Length => Entry {
+                number: 3,
+                name: "Length",
+                words: "the image has another length than its counts ask for",
+            },
         }
     }
 }
 
 impl RecordsCause {
-    fn number(self) -> u8
-        ensures { result ≡ (of_records self).number }
+    fn entry(self) -> Entry
+        ensures number { result.number ≡ (of_records self).number }
+        ensures name { result.name.now ≡ (of_records self).name }
+        ensures words { result.words.now ≡ (of_records self).words }
     {
         match self {
-            RecordsCause::Field => 4,
-            RecordsCause::Order => 5,
-            RecordsCause::Sink => 6,
-        }
-    }
-
-    fn name(self) -> &'static str
-        ensures { result.now ≡ (of_records self).name }
-    {
-        match self {
-            RecordsCause::Field => "Field",
-            RecordsCause::Order => "Order",
-            RecordsCause::Sink => "Sink",
-        }
-    }
-
-    fn words(self) -> &'static str
-        ensures { result.now ≡ (of_records self).words }
-    {
-        match self {
-            RecordsCause::Field => "a field is out of range or against a rule of channels",
-            RecordsCause::Order =>
-                "a channel does not come after the one before it in the order of sources",
-            RecordsCause::Sink => "a channel ends where an earlier one ends",
+            RecordsCause::Field => Entry {
+                number: 4,
+                name: "Field",
+                words: "a field is out of range or against a rule of channels",
+            },
+            RecordsCause::Order => Entry {
+                number: 5,
+                name: "Order",
+                words: "a channel does not come after the one before it in the order of sources",
+            },
+            RecordsCause::Sink => Entry {
+                number: 6,
+                name: "Sink",
+                words: "a channel ends where an earlier one ends",
+            },
         }
     }
 }
 
 impl GraphCause {
-    fn number(self) -> u8
-        ensures { result ≡ (of_graph self).number }
+    fn entry(self) -> Entry
+        ensures number { result.number ≡ (of_graph self).number }
+        ensures name { result.name.now ≡ (of_graph self).name }
+        ensures words { result.words.now ≡ (of_graph self).words }
     {
         match self {
-            GraphCause::Unwired => 7,
-            GraphCause::CutOff => 8,
-            GraphCause::ZeroLoop => 9,
-        }
-    }
-
-    fn name(self) -> &'static str
-        ensures { result.now ≡ (of_graph self).name }
-    {
-        match self {
-            GraphCause::Unwired => "Unwired",
-            GraphCause::CutOff => "Cut off",
-            GraphCause::ZeroLoop => "Zero loop",
-        }
-    }
-
-    fn words(self) -> &'static str
-        ensures { result.now ≡ (of_graph self).words }
-    {
-        match self {
-            GraphCause::Unwired => "a sensor feeds nothing, or an actuator is not fed",
-            GraphCause::CutOff => "an actor has no sensor before it or no actuator behind it",
-            GraphCause::ZeroLoop => "an actor lies on a cycle without delay",
+            GraphCause::Unwired => Entry {
+                number: 7,
+                name: "Unwired",
+                words: "a sensor feeds nothing, or an actuator is not fed",
+            },
+            GraphCause::CutOff => Entry {
+                number: 8,
+                name: "Cut off",
+                words: "an actor has no sensor before it or no actuator behind it",
+            },
+            GraphCause::ZeroLoop => Entry {
+                number: 9,
+                name: "Zero loop",
+                words: "an actor lies on a cycle without delay",
+            },
         }
     }
 }
 
 impl RunCause {
-    fn number(self) -> u8
-        ensures { result ≡ (of_run self).number }
+    fn entry(self) -> Entry
+        ensures number { result.number ≡ (of_run self).number }
+        ensures name { result.name.now ≡ (of_run self).name }
+        ensures words { result.words.now ≡ (of_run self).words }
     {
         match self {
-            RunCause::NoSuch => 10,
-            RunCause::Window => 11,
-            RunCause::Stale => 12,
-            RunCause::Full => 13,
-            RunCause::Back => 14,
-            RunCause::Horizon => 15,
-            RunCause::Due => 16,
-            RunCause::Nothing => 17,
-            RunCause::Early => 18,
-            RunCause::Behind => 19,
-            RunCause::NotSooner => 20,
-        }
-    }
-
-    fn name(self) -> &'static str
-        ensures { result.now ≡ (of_run self).name }
-    {
-        match self {
-            RunCause::NoSuch => "No such",
-            RunCause::Window => "Window",
-            RunCause::Stale => "Stale",
-            RunCause::Full => "Full",
-            RunCause::Back => "Back",
-            RunCause::Horizon => "Horizon",
-            RunCause::Due => "Due",
-            RunCause::Nothing => "Nothing",
-            RunCause::Early => "Early",
-            RunCause::Behind => "Behind",
-            RunCause::NotSooner => "Not sooner",
-        }
-    }
-
-    fn words(self) -> &'static str
-        ensures { result.now ≡ (of_run self).words }
-    {
-        match self {
-            RunCause::NoSuch => "the project has no such number",
-            RunCause::Window => "the timestamp is in the future or older than the lateness allows",
-            RunCause::Stale => "the timestamp is not above the sensor's last one",
-            RunCause::Full => "there is not enough room",
-            RunCause::Back => "the clock would go back",
-            RunCause::Horizon => "the time lies beyond the horizon",
-            RunCause::Due => "an output is due before the new clock",
-            RunCause::Nothing => "there is nothing to do",
-            RunCause::Early => "an event that is no later may still come from a sensor",
-            RunCause::Behind => "an event that is no later may still come from a waiting one",
-            RunCause::NotSooner => "the deadline is not below that of the running firing",
+            RunCause::NoSuch => Entry {
+                number: 10,
+                name: "No such",
+                words: "the project has no such number",
+            },
+            RunCause::Window => Entry {
+                number: 11,
+                name: "Window",
+                words: "the timestamp is in the future or older than the lateness allows",
+            },
+            RunCause::Stale => Entry {
+                number: 12,
+                name: "Stale",
+                words: "the timestamp is not above the sensor's last one",
+            },
+            RunCause::Full => Entry {
+                number: 13,
+                name: "Full",
+                words: "there is not enough room",
+            },
+            RunCause::Back => Entry {
+                number: 14,
+                name: "Back",
+                words: "the clock would go back",
+            },
+            RunCause::Horizon => Entry {
+                number: 15,
+                name: "Horizon",
+                words: "the time lies beyond the horizon",
+            },
+            RunCause::Due => Entry {
+                number: 16,
+                name: "Due",
+                words: "an output is due before the new clock",
+            },
+            RunCause::Nothing => Entry {
+                number: 17,
+                name: "Nothing",
+                words: "there is nothing to do",
+            },
+            RunCause::Early => Entry {
+                number: 18,
+                name: "Early",
+                words: "an event that is no later may still come from a sensor",
+            },
+            RunCause::Behind => Entry {
+                number: 19,
+                name: "Behind",
+                words: "an event that is no later may still come from a waiting one",
+            },
+            RunCause::NotSooner => Entry {
+                number: 20,
+                name: "Not sooner",
+                words: "the deadline is not below that of the running firing",
+            },
         }
     }
 }
 
 impl Fault {
+    fn entry(self) -> Entry
+        ensures number { result.number ≡ (entry self).number }
+        ensures name { result.name.now ≡ (entry self).name }
+        ensures words { result.words.now ≡ (entry self).words }
+    {
+        match self {
+            Fault::Bytes(cause, _) => cause.entry(),
+            Fault::Records(cause, _) => cause.entry(),
+            Fault::Graph(cause, _) => cause.entry(),
+            Fault::Run(cause, _) => cause.entry(),
+        }
+    }
+
     pub fn number(self) -> u8
         ensures { result ≡ (entry self).number }
     {
-        match self {
-            Fault::Bytes(cause, _) => cause.number(),
-            Fault::Records(cause, _) => cause.number(),
-            Fault::Graph(cause, _) => cause.number(),
-            Fault::Run(cause, _) => cause.number(),
-        }
+        self.entry().number
     }
 
     pub fn name(self) -> &'static str
         ensures { result.now ≡ (entry self).name }
     {
-        match self {
-            Fault::Bytes(cause, _) => cause.name(),
-            Fault::Records(cause, _) => cause.name(),
-            Fault::Graph(cause, _) => cause.name(),
-            Fault::Run(cause, _) => cause.name(),
-        }
+        self.entry().name
     }
 
     pub fn words(self) -> &'static str
         ensures { result.now ≡ (entry self).words }
     {
-        match self {
-            Fault::Bytes(cause, _) => cause.words(),
-            Fault::Records(cause, _) => cause.words(),
-            Fault::Graph(cause, _) => cause.words(),
-            Fault::Run(cause, _) => cause.words(),
-        }
+        self.entry().words
     }
 
     pub fn layer(self) -> Layer
@@ -279,11 +276,20 @@ impl Fault {
         ensures { result ≡ place_of self }
     {
         match self {
-            Fault::Bytes(_, place) => place,
-            Fault::Records(_, place) => place,
-            Fault::Graph(_, place) => place,
-            Fault::Run(_, place) => place,
+            Fault::Bytes(_, place)
+            | Fault::Records(_, place)
+            | Fault::Graph(_, place)
+            | Fault::Run(_, place) => place,
         }
+    }
+}
+
+// What `{}` writes of a layer: its name.
+impl fmt::Display for Layer {
+    ghost output = { λ l. Some (layer_name l) };
+
+    fn fmt<W: fmt::Write>(&self, f: &mut fmt::Formatter<W>) -> fmt::Result {
+        f.write_str(self.name())
     }
 }
 
@@ -292,10 +298,13 @@ impl fmt::Display for Fault {
     ghost output = { λ f. Some (notice f) };
 
     fn fmt<W: fmt::Write>(&self, f: &mut fmt::Formatter<W>) -> fmt::Result {
-        let number = self.number();
-        let name = self.name();
-        let layer = self.layer().name();
-        let place = self.place();
-        write!(f, "refused {number} {name}, layer {layer}, place {place}")
+        write!(
+            f,
+            "refused {} {}, layer {}, place {}",
+            self.number(),
+            self.name(),
+            self.layer(),
+            self.place()
+        )
     }
 }

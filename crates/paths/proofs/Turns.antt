@@ -1,6 +1,6 @@
 -- What each turn of the loops of `close` adds. Assumes nothing.
-use Rattle.std.proofs.Common.{◌≡◌, ℕ, suc, ◌+◌, ◌*◌, ◌/◌, ◌%◌, ◌<◌, ◌≤◌, List, [], ◌∷◌, ◌++◌, length, sym, ap, ◌∙◌, ⊎_elim, arith, length-set}
-use Rattle.std.proofs.lemmas.Nat.{mul-add-lt, div-mul-add, mod-mul-add}
+use Rattle.std.proofs.Common.{◌≡◌, ℕ, suc, ◌+◌, ◌*◌, ◌<◌, ◌≤◌, List, [], ◌∷◌, ◌++◌, length, ◌∙◌, ⊎_elim, arith, length-set}
+use Rattle.std.proofs.lemmas.Nat.{mul-add-lt, same_from_place}
 use Rattle.std.proofs.ByRecursion.{All-append, All-weaker}
 use Rattle.std.proofs.lemmas.List.{get_or-set_same, get_or-set_other}
 use Rattle.std.proofs.lemmas.Bool.{cases_eq}
@@ -12,10 +12,7 @@ use Rattle.paths.proofs.Visits.{first, last}
 
 -- a place tells its row and its column
 pub same_place : (n a b i j : ℕ) → b < n → j < n → a * n + b ≡ i * n + j → (a ≡ i) × (b ≡ j)
-same_place n a b i j hb hj e = (
-  sym (div-mul-add a n b hb) ∙ ap (λ m. m / n) e ∙ div-mul-add i n j hj,
-  sym (mod-mul-add a n b hb) ∙ ap (λ m. m % n) e ∙ mod-mul-add i n j hj,
-)
+same_place n a b i j hb hj e = same_from_place a b i j n hb hj e
 
 module _ {W : Type 0} {none empty : W} {choose join : W → W → W} (laws : Laws none empty choose join)
     (n : ℕ) (e : ℕ → ℕ → W) where

@@ -1,4 +1,5 @@
 -- Spans are told apart by their lengths. Assumes nothing.
+-- In proofs/ it was tried and did not close: the laws of `impl Weight for Span` may cite only specs/ of their own crate.
 use Rattle.std.specs.Prelude.{◌≡◌, ℕ, ◌^◌, ◌<◌, true, is_some, Some, None}
 use mathlib.Core.HLevel.{is_prop→PathP}
 use Rattle.std.proofs.Math.Bridge.{le_prop}

@@ -59,39 +59,51 @@ impl Weight for bool {
 #[derive(Clone, Copy, Debug, PartialEq, Eq)]
 pub struct NotSquare;
 
-// Where row i, column j stands in a square table with rows of n.
-fn place(n: usize, i: usize, j: usize) -> usize
-    requires fits { n * n < 2 ^ 64 }
-    requires row { i < n }
-    requires column { j < n }
-    ensures is { result ≡ i * n + j }
-    ensures within { result < n * n }
-{
-    i * n + j
+// A square table of weights, row by row.
+#[derive(Drop)]
+struct Square<'a, W> {
+    cells: &'a mut [W],
+    places: usize,
+    ghost square: { length cells.now ≡ places * places },
 }
 
-// Offers the way from i to j the one through k.
-fn relax<W: Weight>(table: &mut [W], n: usize, k: usize, i: usize, j: usize)
-    requires square { length table.old ≡ n * n }
-    requires through { k < n }
-    requires row { i < n }
-    requires column { j < n }
-    ensures { table.new ≡ relaxed W.none W.choose W.join n k i j table.old }
-{
-    let through = table[place(n, i, k)].follow(table[place(n, k, j)]);
-    let here = place(n, i, j);
-    table[here] = table[here].pick(through);
-}
+impl<'a, W: Weight> Square<'a, W> {
+    // Where row i, column j stands.
+    fn place(&self, i: usize, j: usize) -> usize
+        requires row { i < self.now.places }
+        requires column { j < self.now.places }
+        ensures is { result ≡ i * self.now.places + j }
+        ensures within { result < length self.now.cells.now }
+    {
+        i * self.places + j
+    }
 
-// Lets in one place after another as an inner place of paths.
-fn close_square<W: Weight>(table: &mut [W], n: usize)
-    requires square { length table.old ≡ n * n }
-    ensures { Closure W.none W.choose W.join n table.old table.new }
-{
-    for k in 0..n {
-        for i in 0..n {
-            for j in 0..n {
-                relax(table, n, k, i, j);
+    // Offers the way from i to j the one through k.
+    fn relax(&mut self, k: usize, i: usize, j: usize)
+        requires through { k < self.old.places }
+        requires row { i < self.old.places }
+        requires column { j < self.old.places }
+        ensures same_cells { self.new.cells.ghost_name ≡ self.old.cells.ghost_name }
+        ensures same_places { self.new.places ≡ self.old.places }
+        ensures offered { self.new.cells.now ≡ relaxed W.none W.choose W.join self.old.places k i j self.old.cells.now }
+    {
+        let through = self.cells[self.place(i, k)].follow(self.cells[self.place(k, j)]);
+        let here = self.place(i, j);
+        self.cells[here] = self.cells[here].pick(through);
+    }
+
+    // Lets in one place after another as an inner place of paths.
+    // Numbers are plainer here than iterators over rows: row i is written while row k is read, and both may be one row.
+    fn close(&mut self)
+        ensures same_cells { self.new.cells.ghost_name ≡ self.old.cells.ghost_name }
+        ensures closed { Closure W.none W.choose W.join self.old.places self.old.cells.now self.new.cells.now }
+    {
+        let n = self.places;
+        for k in 0..n {
+            for i in 0..n {
+                for j in 0..n {
+                    self.relax(k, i, j);
+                }
             }
         }
     }
@@ -107,11 +119,16 @@ pub fn close<W: Weight>(table: &mut [W], n: usize) -> Result<(), NotSquare>
     if n.checked_mul(n) != Some(table.len()) {
         return Err(NotSquare);
     }
-    close_square(table, n);
+    Square {
+        cells: table,
+        places: n,
+    }
+    .close();
     Ok(())
 }
 
 // Turns a table of edge lengths into the least sums over all paths.
+#[tactic(auto, using(crate::proofs::Least::distances))]
 pub fn distances(table: &mut [Span], n: usize) -> Result<(), NotSquare>
     ensures square { Decides (is_ok result) (length table.old ≡ n * n) }
     ensures closed { MatchResult result
@@ -122,6 +139,7 @@ pub fn distances(table: &mut [Span], n: usize) -> Result<(), NotSquare>
 }
 
 // Turns a table of edges into the table of what reaches what.
+#[tactic(auto, using(crate::proofs::Least::reached))]
 pub fn reaches(table: &mut [bool], n: usize) -> Result<(), NotSquare>
     ensures square { Decides (is_ok result) (length table.old ≡ n * n) }
     ensures closed { MatchResult result

@@ -1,6 +1,6 @@
 ghost use Rattle.std.specs.Prelude.{◌≡◌, Some, None};
 ghost use Rattle.paths.specs.Spans.{length_of, no_span, zero_span, shorter, after};
-ghost use Rattle.std.proofs.Common.{arith};
+ghost use Rattle.std.proofs.Common.{arith, rules};
 ghost use Rattle.paths.specs.SpansLemmas.{same_span};
 
 use super::Span;
@@ -14,7 +14,7 @@ impl Span {
         Span { micros: u64::MAX }
     }
 
-    // So many microseconds.
+    // So many microseconds. No plainer as a `From<u32>`: the name tells the unit at each call.
     pub fn micros(count: u32) -> Span
         ensures { length_of result ≡ Some count }
     {
@@ -27,11 +27,7 @@ impl Span {
     pub fn length(self) -> Option<u64>
         ensures { result ≡ length_of self }
     {
-        if self.micros < u64::MAX {
-            Some(self.micros)
-        } else {
-            None
-        }
+        (self.micros < u64::MAX).then_some(self.micros)
     }
 }
 
@@ -45,27 +41,16 @@ impl Weight for Span {
 
     ghost join = { after };
 
-    ghost laws = { record {
-      choose_assoc = λ x y z. same_span _ _ (omega arith);
-      choose_comm = λ x y. same_span _ _ (omega arith);
-      choose_same = λ x. same_span _ _ (omega arith);
-      join_assoc = λ x y z. same_span _ _ (omega arith);
-      join_choose = λ x y z. same_span _ _ (omega arith);
-      choose_join = λ x y z. same_span _ _ (omega arith);
-      none_choose = λ x. same_span _ _ (omega (arith, x.fits));
-      none_join = λ x. same_span _ _ (omega arith);
-      join_none = λ x. same_span _ _ (omega arith);
-      empty_join = λ x. same_span _ _ (omega (arith, x.fits));
-      join_empty = λ x. same_span _ _ (omega (arith, x.fits));
-      empty_choose = λ x. same_span _ _ (omega arith);
-    } };
+    ghost laws = { Prim.search (rules, same_span) };
 
+    #[tactic(auto, using(crate::specs::SpansLemmas::same_span))]
     fn pick(self, other: Span) -> Span {
         Span {
             micros: self.micros.min(other.micros),
         }
     }
 
+    #[tactic(auto, using(crate::specs::SpansLemmas::same_span))]
     fn follow(self, next: Span) -> Span {
         Span {
             micros: self.micros.saturating_add(next.micros),
