@@ -36,8 +36,9 @@ impl Supplied {
     pub fn new(actors: &[Actor]) -> Supplied
         ensures { meaning_of result ≡ supplied actors.now }
     {
-        let states = array::from_fn(|number| first_state(actors, number));
-        Supplied { states }
+        Supplied {
+            states: array::from_fn(|number| first_state(actors, number)),
+        }
     }
 
     // A bank for a project, as it is at the start.

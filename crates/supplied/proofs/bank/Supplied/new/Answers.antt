@@ -5,7 +5,7 @@ use Rattle.supplied.proofs.bank.Supplied.new.Goals as goal
 
 pub returns : goal.returns
 returns c =
-    let made = c.from_fn-states.ensures.items in
-    all_start c.from_fn-states.result c.args.actors.now made.long
+    let made = c.from_fn.ensures.items in
+    all_start c.from_fn.result c.args.actors.now made.long
     (λ k lt. let call = made.at k Other lt in search rules)
     (λ k lt. let call = made.at k Other lt in search rules)
