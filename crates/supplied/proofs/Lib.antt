@@ -1,4 +1,3 @@
 mod Holdings
 mod Starts
-mod Scaling
 mod Table

@@ -1,7 +1,7 @@
-ghost use Rattle.std.specs.Prelude.{◌≡◌, slice_set};
+ghost use Rattle.std.specs.Prelude.{◌≡◌, slice_index_or, slice_set};
 ghost use Rattle.supplied.specs.Holding.{meaning_of, state_of};
-ghost use Rattle.supplied.specs.Kinds.{leaves};
-ghost use Rattle.supplied.specs.Project.{supplied};
+ghost use Rattle.supplied.specs.Kinds.{leaves, reacts, starts};
+ghost use Rattle.supplied.specs.Project.{bystander, supplied};
 ghost use Rattle.supplied.specs.States.{row_of, rule_of};
 ghost use Rattle.project.specs.Project.{plan};
 
@@ -9,6 +9,7 @@ use super::state::State;
 use banks::bank::Bank;
 use line::parts::Actor;
 use project::project::Project;
+use std::array;
 
 // As many actors as a project may have.
 const ACTORS: usize = 32;
@@ -19,16 +20,25 @@ pub struct Supplied {
     states: [State; ACTORS],
 }
 
+// The state of an actor number at the start; a number past the end is silent.
+fn first_state(actors: &[Actor], number: usize) -> State
+    ensures row { row_of result ≡ starts (slice_index_or actors.now number bystander).kind }
+    ensures rule { rule_of result ≡ reacts (slice_index_or actors.now number bystander).kind (slice_index_or actors.now number bystander).parameter }
+{
+    match actors.get(number) {
+        Some(actor) => State::new(*actor),
+        None => State::Other,
+    }
+}
+
 impl Supplied {
     // A bank for the actors of a project, by their numbers, all as they are at the start.
     pub fn new(actors: &[Actor]) -> Supplied
         ensures { meaning_of result ≡ supplied actors.now }
     {
-        let mut states = [State::Other; ACTORS];
-        for i in 0..actors.len().min(ACTORS) {
-            states[i] = State::new(actors[i]);
+        Supplied {
+            states: array::from_fn(|number| first_state(actors, number)),
         }
-        Supplied { states }
     }
 
     // A bank for a project, as it is at the start.

@@ -34,7 +34,7 @@ impl Scale {
 fn product(a: i32, b: i32) -> i64
     ensures { result ≡ a *ℤ b }
 {
-    a as i64 * b as i64
+    i64::from(a) * i64::from(b)
 }
 
 // What is whole of so many thousandths, rounded towards zero.
@@ -48,5 +48,5 @@ fn whole(thousandths: i64) -> i64
 fn hold(number: i64) -> i32
     ensures { result ≡ held number }
 {
-    number.clamp(i32::MIN as i64, i32::MAX as i64) as i32
+    number.clamp(i64::from(i32::MIN), i64::from(i32::MAX)) as i32
 }
