@@ -85,6 +85,16 @@ struct Entry {
     words: &'static str,
 }
 
+fn row(number: u8, name: &'static str, words: &'static str) -> Entry
+    ensures { (result.number ≡ number) × (result.name.now ≡ name.now) × (result.words.now ≡ words.now) }
+{
+    Entry {
+        number,
+        name,
+        words,
+    }
+}
+
 impl BytesCause {
     fn entry(self) -> Entry
         ensures number { result.number ≡ (of_bytes self).number }
@@ -92,21 +102,17 @@ impl BytesCause {
         ensures words { result.words.now ≡ (of_bytes self).words }
     {
         match self {
-            BytesCause::Head => Entry {
-                number: 1,
-                name: "Head",
-                words: "the image does not begin with LIN, version 1 and four counts",
-            },
-            BytesCause::Count => Entry {
-                number: 2,
-                name: "Count",
-                words: "a count is out of range",
-            },
-            BytesCause::Length => Entry {
-                number: 3,
-                name: "Length",
-                words: "the image has another length than its counts ask for",
-            },
+            BytesCause::Head => row(
+                1,
+                "Head",
+                "the image does not begin with LIN, version 1 and four counts",
+            ),
+            BytesCause::Count => row(2, "Count", "a count is out of range"),
+            BytesCause::Length => row(
+                3,
+                "Length",
+                "the image has another length than its counts ask for",
+            ),
         }
     }
 }
@@ -118,21 +124,17 @@ impl RecordsCause {
         ensures words { result.words.now ≡ (of_records self).words }
     {
         match self {
-            RecordsCause::Field => Entry {
-                number: 4,
-                name: "Field",
-                words: "a field is out of range or against a rule of channels",
-            },
-            RecordsCause::Order => Entry {
-                number: 5,
-                name: "Order",
-                words: "a channel does not come after the one before it in the order of sources",
-            },
-            RecordsCause::Sink => Entry {
-                number: 6,
-                name: "Sink",
-                words: "a channel ends where an earlier one ends",
-            },
+            RecordsCause::Field => row(
+                4,
+                "Field",
+                "a field is out of range or against a rule of channels",
+            ),
+            RecordsCause::Order => row(
+                5,
+                "Order",
+                "a channel does not come after the one before it in the order of sources",
+            ),
+            RecordsCause::Sink => row(6, "Sink", "a channel ends where an earlier one ends"),
         }
     }
 }
@@ -144,21 +146,17 @@ impl GraphCause {
         ensures words { result.words.now ≡ (of_graph self).words }
     {
         match self {
-            GraphCause::Unwired => Entry {
-                number: 7,
-                name: "Unwired",
-                words: "a sensor feeds nothing, or an actuator is not fed",
-            },
-            GraphCause::CutOff => Entry {
-                number: 8,
-                name: "Cut off",
-                words: "an actor has no sensor before it or no actuator behind it",
-            },
-            GraphCause::ZeroLoop => Entry {
-                number: 9,
-                name: "Zero loop",
-                words: "an actor lies on a cycle without delay",
-            },
+            GraphCause::Unwired => row(
+                7,
+                "Unwired",
+                "a sensor feeds nothing, or an actuator is not fed",
+            ),
+            GraphCause::CutOff => row(
+                8,
+                "Cut off",
+                "an actor has no sensor before it or no actuator behind it",
+            ),
+            GraphCause::ZeroLoop => row(9, "Zero loop", "an actor lies on a cycle without delay"),
         }
     }
 }
@@ -170,61 +168,37 @@ impl RunCause {
         ensures words { result.words.now ≡ (of_run self).words }
     {
         match self {
-            RunCause::NoSuch => Entry {
-                number: 10,
-                name: "No such",
-                words: "the project has no such number",
-            },
-            RunCause::Window => Entry {
-                number: 11,
-                name: "Window",
-                words: "the timestamp is in the future or older than the lateness allows",
-            },
-            RunCause::Stale => Entry {
-                number: 12,
-                name: "Stale",
-                words: "the timestamp is not above the sensor's last one",
-            },
-            RunCause::Full => Entry {
-                number: 13,
-                name: "Full",
-                words: "there is not enough room",
-            },
-            RunCause::Back => Entry {
-                number: 14,
-                name: "Back",
-                words: "the clock would go back",
-            },
-            RunCause::Horizon => Entry {
-                number: 15,
-                name: "Horizon",
-                words: "the time lies beyond the horizon",
-            },
-            RunCause::Due => Entry {
-                number: 16,
-                name: "Due",
-                words: "an output is due before the new clock",
-            },
-            RunCause::Nothing => Entry {
-                number: 17,
-                name: "Nothing",
-                words: "there is nothing to do",
-            },
-            RunCause::Early => Entry {
-                number: 18,
-                name: "Early",
-                words: "an event that is no later may still come from a sensor",
-            },
-            RunCause::Behind => Entry {
-                number: 19,
-                name: "Behind",
-                words: "an event that is no later may still come from a waiting one",
-            },
-            RunCause::NotSooner => Entry {
-                number: 20,
-                name: "Not sooner",
-                words: "the deadline is not below that of the running firing",
-            },
+            RunCause::NoSuch => row(10, "No such", "the project has no such number"),
+            RunCause::Window => row(
+                11,
+                "Window",
+                "the timestamp is in the future or older than the lateness allows",
+            ),
+            RunCause::Stale => row(
+                12,
+                "Stale",
+                "the timestamp is not above the sensor's last one",
+            ),
+            RunCause::Full => row(13, "Full", "there is not enough room"),
+            RunCause::Back => row(14, "Back", "the clock would go back"),
+            RunCause::Horizon => row(15, "Horizon", "the time lies beyond the horizon"),
+            RunCause::Due => row(16, "Due", "an output is due before the new clock"),
+            RunCause::Nothing => row(17, "Nothing", "there is nothing to do"),
+            RunCause::Early => row(
+                18,
+                "Early",
+                "an event that is no later may still come from a sensor",
+            ),
+            RunCause::Behind => row(
+                19,
+                "Behind",
+                "an event that is no later may still come from a waiting one",
+            ),
+            RunCause::NotSooner => row(
+                20,
+                "Not sooner",
+                "the deadline is not below that of the running firing",
+            ),
         }
     }
 }
