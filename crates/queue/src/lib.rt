@@ -2,12 +2,13 @@
 #![tactic(auto)]
 
 ghost use Rattle.std.specs.Prelude.{◌≡◌, ◌≤◌, [], length, is_ok, if◌then◌else◌, nat_lt};
+ghost use Rattle.std.specs.Fn.{CalledAt};
 ghost use Rattle.std.specs.List.{insert, remove, slice_get};
-ghost use Rattle.bounded.specs.Held.{unwanted};
+ghost use Rattle.std.specs.List.Retain.{IsFiltered};
 ghost use Rattle.queue.specs.Held.{held};
 ghost use Rattle.queue.specs.Order.{OrderLaws, StaysOrdered, put};
 
-use bounded::{Bounded, Full, Select};
+use bounded::{Bounded, Full};
 
 mod ranked;
 #[cfg(test)]
@@ -105,11 +106,13 @@ impl<T: Ranked, const N: usize> Queue<T, N> {
         self.list.remove(i)
     }
 
-    // Drops each record that s wants, and keeps the others in their order.
-    pub fn drop_where<S: Select<T>>(&mut self, s: &S)
-        ensures { held self.new ≡ unwanted (S.Select.wanted s.now) (held self.old) }
+    // Keeps the records that `keep` answers true for, in their order.
+    pub fn retain<F: FnMut(&T) -> bool>(&mut self, keep: F)
+        requires { F.IsAlwaysCallable keep }
+        ensures filtered { IsFiltered (CalledAt F.FnMut) keep (held self.old) (held self.new) }
+        ensures bound { length (held self.new) ≤ length (held self.old) }
     {
-        self.list.drop_where(s);
+        self.list.retain(keep);
     }
 
     // No call breaks the order, and its first record has the least rank.
