@@ -32,13 +32,8 @@ impl<T: Copy, const N: usize> Bounded<T, N> {
         if i > n {
             return Err(InsertError::PastEnd);
         }
-        let mut moved = x;
-        for k in i..n {
-            let next = self.items[k];
-            self.items[k] = moved;
-            moved = next;
-        }
-        self.items[n] = moved;
+        self.items.copy_within(i..n, i + 1);
+        self.items[i] = x;
         self.len = n + 1;
         Ok(())
     }
@@ -48,23 +43,10 @@ impl<T: Copy, const N: usize> Bounded<T, N> {
         ensures answer { result ≡ slice_get (held self.old) i }
         ensures after { held self.new ≡ remove (held self.old) i }
     {
-        let gone = self.get(i);
-        self.close_up(i);
-        gone
-    }
-
-    // Writes each record behind i over the one before it. Past the end there is none to go.
-    fn close_up(&mut self, i: usize)
-        ensures { held self.new ≡ remove (held self.old) i }
-    {
-        let n = self.len;
-        if i >= n {
-            return;
-        }
-        for k in i..n - 1 {
-            self.items[k] = self.items[k + 1];
-        }
-        self.len = n - 1;
+        let gone = self.get(i)?;
+        self.items.copy_within(i + 1..self.len, i);
+        self.len -= 1;
+        Some(gone)
     }
 
     // Keeps the records that `keep` answers true for, in their order.
