@@ -1,5 +1,5 @@
 -- What keeps a list in order, and which records it then has.
-use Rattle.std.proofs.Common.{◌≡◌, ℕ, zero, suc, ◌<◌, ◌≤◌, Bool, true, false, not, ltb, ◌⊎◌, List, [], ◌∷◌, length, Some, filter, sym, refl, ap, ◌∙◌, inl, inr, ⊎_elim, arith}
+use Rattle.std.proofs.Common.{◌≡◌, ℕ, zero, suc, ◌<◌, ◌≤◌, Bool, true, false, cond, not, ltb, ◌⊎◌, List, [], ◌∷◌, length, Some, filter, sym, refl, ap, ◌∙◌, inl, inr, ⊎_elim, arith}
 use Rattle.std.specs.List.{items_where_true, remove, slice_get}
 use Rattle.std.proofs.lemmas.Bool.{cases_lt, cases_Bool, cond_both}
 use Rattle.queue.specs.Order.{put, In, Least, Ascending, Foremost, Placed, OrderLaws}
@@ -102,6 +102,13 @@ placed-later rank x y ys le r =
       none_greater = λ z. ⊎_elim (λ e. rw e le) (r.none_greater z);
       all_greater = r.all_greater;
     }
+
+-- x was inserted, or the list stayed as it was
+pub inserted-ascends : {A : Type 0} (rank : A → ℕ) (x : A) (xs ys ps : List A) (ok : Bool)
+    → ps ≡ put rank x xs → ys ≡ cond ok ps xs → Ascending rank xs → Ascending rank ys
+inserted-ascends rank x xs ys ps ok places after h =
+    let done : Ascending rank ps = rw places (put-ascends rank x xs h) in
+    rw after (cond_both ok ps xs (Ascending rank) (λ _. done) (λ _. h))
 
 pub put-places : {A : Type 0} (rank : A → ℕ) (x : A) (xs : List A)
     → Ascending rank xs → Placed rank x xs (put rank x xs)
