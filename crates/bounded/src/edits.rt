@@ -65,6 +65,7 @@ fn keep_in_front<T: Copy, F: FnMut(&T) -> bool>(items: &mut [T], mut keep: F) ->
     ensures filtered { IsFiltered (CalledAt F.FnMut) keep items.old (take result items.new) }
     ensures bound { result ≤ length items.old }
 {
+    // By index, as an iterator would hold the slice that is written: no other form is plainer.
     let mut kept = 0;
     for i in 0..items.len() {
         let x = items[i];

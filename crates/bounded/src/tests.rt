@@ -48,3 +48,13 @@ fn drops_none_some_and_all(rt: HostRuntime) -> Result<(), Fail> {
     assert_eq!(rt; list.len(), 0);
     Ok(())
 }
+
+#[test]
+fn free_places_are_not_compared(rt: HostRuntime) -> Result<(), Fail> {
+    let mut list = two_four_six()?;
+    list.push(8)?;
+    assert!(rt; list != two_four_six()?);
+    list.pop();
+    assert!(rt; list == two_four_six()?);
+    Ok(())
+}
