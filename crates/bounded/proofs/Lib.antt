@@ -1,4 +1,4 @@
 pub mod Prefix
-pub mod Overwrite
 pub mod Shifts
 pub mod Laws
+pub mod Kept

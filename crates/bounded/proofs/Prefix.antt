@@ -1,8 +1,8 @@
 -- The first n records of an array, read and edited.
-use Rattle.std.proofs.Common.{◌≡◌, ℕ, zero, suc, ◌-◌, ◌<◌, ◌≤◌, List, [], ◌∷◌, length, get_or, take, set, Some, refl, ap, ◌∙◌, arith}
+use Rattle.std.proofs.Common.{◌≡◌, ℕ, zero, suc, ◌-◌, ◌<◌, ◌≤◌, List, [], ◌∷◌, length, get_or, take, set, Some, None, sym, refl, ap, ◌∙◌, arith}
 use Rattle.std.specs.List.{slice_get, remove}
-use Rattle.std.proofs.lemmas.List.{append-nil, length-take-le, get_or-take, take-take, take_all, drop_all}
-use Rattle.std.proofs.lemmas.Option.{slice_get-get_or}
+use Rattle.std.proofs.lemmas.List.{length-take-le, get_or-take, take-take}
+use Rattle.std.proofs.lemmas.Option.{none-some, slice_get-get_or, slice_get_within}
 use Rattle.bounded.specs.Held.{final, front}
 
 pub slice_get-take : {A : Type 0} (n : ℕ) (xs : List A) (i : ℕ) (d : A) → i < n → n ≤ length xs
@@ -24,5 +24,13 @@ take-of-set (suc n) [] i x = refl
 take-of-set (suc n) (y ∷ ys) zero x = refl
 take-of-set (suc n) (y ∷ ys) (suc i) x = ap (λ zs. y ∷ zs) (take-of-set n ys i x)
 
-pub removed-past : {A : Type 0} (xs : List A) (i : ℕ) → length xs ≤ i → remove xs i ≡ xs
-removed-past xs i le = rw (take_all i xs le, drop_all (suc i) xs (omega arith)) (append-nil xs)
+-- a record that is read lies among the first n; where none is read, none is removed
+
+pub read-within : {A : Type 0} (n : ℕ) (xs : List A) (i : ℕ) (x : A) → slice_get (take n xs) i ≡ Some x → n ≤ length xs → i < n
+read-within n xs i x is le = omega (arith, slice_get_within (take n xs) i x is, length-take-le n xs le)
+
+pub remove-none : {A : Type 0} (xs : List A) (i : ℕ) → slice_get xs i ≡ None → xs ≡ remove xs i
+remove-none [] zero e = refl
+remove-none [] (suc i) e = refl
+remove-none (x ∷ xs) zero e = absurd (none-some x (sym e))
+remove-none (x ∷ xs) (suc i) e = ap (λ l. x ∷ l) (remove-none xs i e)

@@ -1,9 +1,11 @@
 // Edits of a list at a place of the caller's choice.
-ghost use Rattle.std.specs.Prelude.{◌≡◌, length, is_ok, if◌then◌else◌, nat_lt, slice_set};
+ghost use Rattle.std.specs.Prelude.{◌≡◌, ◌≤◌, length, take, is_ok, if◌then◌else◌, nat_lt, slice_set};
+ghost use Rattle.std.specs.Fn.{CalledAt};
 ghost use Rattle.std.specs.List.{slice_get, insert, remove};
-ghost use Rattle.bounded.specs.Held.{held, insertion, unwanted};
+ghost use Rattle.std.specs.List.Retain.{IsFiltered};
+ghost use Rattle.bounded.specs.Held.{held, insertion};
 
-use super::{Bounded, InsertError, Select};
+use super::{Bounded, InsertError};
 
 impl<T: Copy, const N: usize> Bounded<T, N> {
     // Whether there is a record at i, which x then replaces.
@@ -30,13 +32,8 @@ impl<T: Copy, const N: usize> Bounded<T, N> {
         if i > n {
             return Err(InsertError::PastEnd);
         }
-        let mut moved = x;
-        for k in i..n {
-            let next = self.items[k];
-            self.items[k] = moved;
-            moved = next;
-        }
-        self.items[n] = moved;
+        self.items.copy_within(i..n, i + 1);
+        self.items[i] = x;
         self.len = n + 1;
         Ok(())
     }
@@ -46,39 +43,36 @@ impl<T: Copy, const N: usize> Bounded<T, N> {
         ensures answer { result ≡ slice_get (held self.old) i }
         ensures after { held self.new ≡ remove (held self.old) i }
     {
-        let gone = self.get(i);
-        self.close_up(i);
-        gone
+        let gone = self.get(i)?;
+        self.items.copy_within(i + 1..self.len, i);
+        self.len -= 1;
+        Some(gone)
     }
 
-    // Writes each record behind i over the one before it. Past the end there is none to go.
-    fn close_up(&mut self, i: usize)
-        ensures { held self.new ≡ remove (held self.old) i }
+    // Keeps the records that `keep` answers true for, in their order.
+    pub fn retain<F: FnMut(&T) -> bool>(&mut self, keep: F)
+        requires { F.IsAlwaysCallable keep }
+        ensures filtered { IsFiltered (CalledAt F.FnMut) keep (held self.old) (held self.new) }
+        ensures bound { length (held self.new) ≤ length (held self.old) }
     {
-        let n = self.len;
-        if i >= n {
-            return;
-        }
-        for k in i..n - 1 {
-            self.items[k] = self.items[k + 1];
-        }
-        self.len = n - 1;
+        self.len = keep_in_front(&mut self.items[..self.len], keep);
     }
+}
 
-    // Drops each record that s wants, and keeps the others in their order.
-    pub fn drop_where<S: Select<T>>(&mut self, s: &S)
-        ensures { held self.new ≡ unwanted (S.Select.wanted s.now) (held self.old) }
-    {
-        let n = self.len;
-        let mut stayed = 0;
-        for i in 0..n {
-            let x = self.items[i];
-            if s.wants(&x) {
-                continue;
-            }
-            self.items[stayed] = x;
-            stayed += 1;
+// Moves the records that `keep` answers true for to the front, in their order, and counts them.
+fn keep_in_front<T: Copy, F: FnMut(&T) -> bool>(items: &mut [T], mut keep: F) -> usize
+    requires { F.IsAlwaysCallable keep }
+    ensures filtered { IsFiltered (CalledAt F.FnMut) keep items.old (take result items.new) }
+    ensures bound { result ≤ length items.old }
+{
+    // By index, as an iterator would hold the slice that is written: no other form is plainer.
+    let mut kept = 0;
+    for i in 0..items.len() {
+        let x = items[i];
+        if keep(&x) {
+            items[kept] = x;
+            kept += 1;
         }
-        self.len = stayed;
     }
+    kept
 }

@@ -5,11 +5,9 @@ ghost use Rattle.std.specs.Prelude.{◌≡◌, ◌≤◌, length, ⊤};
 
 mod edits;
 mod methods;
-mod select;
 #[cfg(test)]
 mod tests;
 
-pub use select::Select;
 use std::alloc::AllocError;
 
 // There was no room for one more record.
@@ -25,7 +23,8 @@ pub enum InsertError {
     PastEnd,
 }
 
-// The first `len` records of an array; the others are never read.
+// The first `len` records of an array; the others are never read. A fixed array, as the library uses no heap.
+// No `impl Model`: the view of a `Copy` type has to give its fields back, and the list has lost the free places.
 pub struct Bounded<T: Copy, const N: usize> {
     items: [T; N],
     len: usize,
@@ -33,6 +32,7 @@ pub struct Bounded<T: Copy, const N: usize> {
     ghost whole: { length items ≡ N },
 }
 
+// By hand, tried as a derive: `Clone` is not derived where a struct has a ghost field.
 impl<T: Copy, const N: usize> Clone for Bounded<T, N> {
     ghost is_clone = { λ x y. y ≡ x };
 
@@ -44,3 +44,26 @@ impl<T: Copy, const N: usize> Clone for Bounded<T, N> {
 }
 
 impl<T: Copy, const N: usize> Copy for Bounded<T, N> {}
+
+// Two lists are equal if their records are: the free places are not compared.
+impl<T: Copy + PartialEq, const N: usize> PartialEq for Bounded<T, N> {
+    ghost use Rattle.std.specs.Cmp.{on_per};
+    ghost use Rattle.std.specs.Cmp.Lexicographic.{lists_per, pointwise};
+    ghost use Rattle.bounded.specs.Held.{held};
+
+    ghost eq = { λ a b. pointwise T.eq (held a) (held b) };
+
+    ghost laws = { on_per held (lists_per T.laws) };
+
+    fn eq(&self, other: &Self) -> bool {
+        self.as_slice() == other.as_slice()
+    }
+}
+
+impl<T: Copy + Eq, const N: usize> Eq for Bounded<T, N> {
+    ghost use Rattle.std.specs.Cmp.{on_equiv};
+    ghost use Rattle.std.specs.Cmp.Lexicographic.{lists_equiv};
+    ghost use Rattle.bounded.specs.Held.{held};
+
+    ghost laws = { on_equiv held (lists_equiv T.Eq.laws) };
+}

@@ -4,17 +4,6 @@ ghost use Rattle.bounded.specs.Held.{final, front, held};
 
 use super::{Bounded, Full};
 
-// The record at i, if there is one.
-fn read<T: Copy>(items: &[T], i: usize) -> Option<T>
-    ensures { result ≡ slice_get items.now i }
-{
-    if i < items.len() {
-        Some(items[i])
-    } else {
-        None
-    }
-}
-
 impl<T: Copy, const N: usize> Bounded<T, N> {
     // An empty list: `filler` stands in its free places, and is never read.
     pub fn new(filler: T) -> Self
@@ -55,14 +44,13 @@ impl<T: Copy, const N: usize> Bounded<T, N> {
     pub fn get(&self, i: usize) -> Option<T>
         ensures { result ≡ slice_get (held self.now) i }
     {
-        read(self.as_slice(), i)
+        self.as_slice().get(i).copied()
     }
 
     pub fn last(&self) -> Option<T>
         ensures { result ≡ final (held self.now) }
     {
-        let items = self.as_slice();
-        read(items, items.len().saturating_sub(1))
+        self.as_slice().last().copied()
     }
 
     // Refused where the list is full, which then stays as it is.
@@ -83,11 +71,9 @@ impl<T: Copy, const N: usize> Bounded<T, N> {
         ensures answer { result ≡ final (held self.old) }
         ensures after { held self.new ≡ front (held self.old) }
     {
-        if self.is_empty() {
-            return None;
-        }
+        let last = self.last()?;
         self.len -= 1;
-        Some(self.items[self.len])
+        Some(last)
     }
 
     pub fn clear(&mut self)

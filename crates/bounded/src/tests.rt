@@ -1,18 +1,5 @@
-ghost use Rattle.std.specs.Prelude.{nat_lt};
-
 use super::*;
 use std::test::Fail;
-
-#[derive(Clone, Copy)]
-struct Below(u8);
-
-impl Select<u8> for Below {
-    ghost wanted = { λ s x. nat_lt x s.0 };
-
-    fn wants(&self, x: &u8) -> bool {
-        *x < self.0
-    }
-}
 
 fn two_four_six() -> Result<Bounded<u8, 4>, Full> {
     let mut list = Bounded::new(0);
@@ -53,11 +40,21 @@ fn places(rt: HostRuntime) -> Result<(), Fail> {
 #[test]
 fn drops_none_some_and_all(rt: HostRuntime) -> Result<(), Fail> {
     let mut list = two_four_six()?;
-    list.drop_where(&Below(2));
+    list.retain(|x| *x >= 2);
     assert_eq!(rt; list.as_slice(), &[2, 4, 6][..]);
-    list.drop_where(&Below(5));
+    list.retain(|x| *x >= 5);
     assert_eq!(rt; list.as_slice(), &[6][..]);
-    list.drop_where(&Below(7));
+    list.retain(|x| *x >= 7);
     assert_eq!(rt; list.len(), 0);
+    Ok(())
+}
+
+#[test]
+fn free_places_are_not_compared(rt: HostRuntime) -> Result<(), Fail> {
+    let mut list = two_four_six()?;
+    list.push(8)?;
+    assert!(rt; list != two_four_six()?);
+    list.pop();
+    assert!(rt; list == two_four_six()?);
     Ok(())
 }

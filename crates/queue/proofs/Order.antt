@@ -1,6 +1,6 @@
 -- What keeps a list in order, and which records it then has.
-use Rattle.std.proofs.Common.{◌≡◌, ℕ, zero, suc, ◌<◌, ◌≤◌, Bool, true, false, not, ltb, ◌⊎◌, List, [], ◌∷◌, length, Some, filter, sym, refl, ap, ◌∙◌, inl, inr, ⊎_elim, arith}
-use Rattle.std.specs.List.{remove, slice_get}
+use Rattle.std.proofs.Common.{◌≡◌, ℕ, zero, suc, ◌<◌, ◌≤◌, Bool, true, false, cond, not, ltb, ◌⊎◌, List, [], ◌∷◌, length, Some, filter, sym, refl, ap, ◌∙◌, inl, inr, ⊎_elim, arith}
+use Rattle.std.specs.List.{items_where_true, remove, slice_get}
 use Rattle.std.proofs.lemmas.Bool.{cases_lt, cases_Bool, cond_both}
 use Rattle.queue.specs.Order.{put, In, Least, Ascending, Foremost, Placed, OrderLaws}
 use Rattle.queue.proofs.Place.{put-before, put-behind}
@@ -103,6 +103,13 @@ placed-later rank x y ys le r =
       all_greater = r.all_greater;
     }
 
+-- x was inserted, or the list stayed as it was
+pub inserted-ascends : {A : Type 0} (rank : A → ℕ) (x : A) (xs ys ps : List A) (ok : Bool)
+    → ps ≡ put rank x xs → ys ≡ cond ok ps xs → Ascending rank xs → Ascending rank ys
+inserted-ascends rank x xs ys ps ok places after h =
+    let done : Ascending rank ps = rw places (put-ascends rank x xs h) in
+    rw after (cond_both ok ps xs (Ascending rank) (λ _. done) (λ _. h))
+
 pub put-places : {A : Type 0} (rank : A → ℕ) (x : A) (xs : List A)
     → Ascending rank xs → Placed rank x xs (put rank x xs)
 put-places rank x [] h =
@@ -128,6 +135,19 @@ kept-ascends rank p (y ∷ ys) h =
     let low : Least rank y (filter p ys) = λ z i. h.0 z (in_kept p z ys i).1 in
     cond_both (p y) (y ∷ filter p ys) (filter p ys) (Ascending rank) (λ _. (low, r)) (λ _. r)
 
+pub in-picked : {A : Type 0} (z : A) (bs : List Bool) (xs : List A) → In z (items_where_true bs xs) → In z xs
+in-picked z [] xs h = absurd h
+in-picked z (b ∷ bs) [] h = h
+in-picked z (true ∷ bs) (y ∷ ys) h = ⊎_elim inl (λ k. inr (in-picked z bs ys k)) h
+in-picked z (false ∷ bs) (y ∷ ys) h = inr (in-picked z bs ys h)
+
+pub picked-ascends : {A : Type 0} (rank : A → ℕ) (bs : List Bool) (xs : List A)
+    → Ascending rank xs → Ascending rank (items_where_true bs xs)
+picked-ascends rank [] xs h = tt
+picked-ascends rank (b ∷ bs) [] h = h
+picked-ascends rank (true ∷ bs) (y ∷ ys) h = (λ z k. h.0 z (in-picked z bs ys k), picked-ascends rank bs ys h.1)
+picked-ascends rank (false ∷ bs) (y ∷ ys) h = picked-ascends rank bs ys h.1
+
 pub removed-ascends : {A : Type 0} (rank : A → ℕ) (xs : List A) (i : ℕ)
     → Ascending rank xs → Ascending rank (remove xs i)
 removed-ascends rank [] zero h = h
@@ -148,5 +168,6 @@ order-laws rank =
       placing = put-places rank;
       removing = removed-ascends rank;
       dropping = λ wanted xs. kept-ascends rank (λ x. not (wanted x)) xs;
+      retaining = picked-ascends rank;
       first = first-foremost rank;
     }

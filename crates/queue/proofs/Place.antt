@@ -1,8 +1,7 @@
--- The place of a record among others: behind the first i of them, as long as their rank is no greater.
-use Rattle.std.proofs.Common.{◌≡◌, ℕ, ◌+◌, ◌<◌, ◌≤◌, List, [], ◌∷◌, ◌++◌, length, get_or, take, drop, sym, ap, ◌∙◌}
-use Rattle.std.specs.List.{insert}
-use Rattle.std.proofs.lemmas.List.{append_assoc, drop_all, drop_more, take_more}
-use Rattle.std.proofs.lemmas.Bool.{cond-true, cond-false, lt-ltb, le-ltb}
+-- The place of a record among others: before the first of greater rank.
+use Rattle.std.proofs.Common.{◌≡◌, ℕ, suc, ◌+◌, ◌<◌, ◌≤◌, Bool, true, false, cond, not, nat_lt, List, [], ◌∷◌, length, Some, None, position, unwrap_or, refl, ap, ◌∙◌, arith}
+use Rattle.std.specs.List.{insert, position_or_len}
+use Rattle.std.proofs.lemmas.Bool.{cond-true, cond-false, cond_both, lt-ltb, le-ltb, ltb-false}
 use Rattle.queue.specs.Order.{put}
 
 module _ {A : Type 0} (rank : A → ℕ) (x : A) where
@@ -12,30 +11,34 @@ module _ {A : Type 0} (rank : A → ℕ) (x : A) where
   pub put-behind : (y : A) (ys : List A) → rank y ≤ rank x → put rank x (y ∷ ys) ≡ y ∷ put rank x ys
   put-behind y ys le = cond-false _ _ _ (le-ltb (rank x) (rank y) le)
 
-  -- x goes behind the first i of xs
-  abbrev pub Behind : List A → ℕ → Type 0
-  Behind xs i = put rank x xs ≡ take i xs ++ put rank x (drop i xs)
+  -- the place is that of the first record of greater rank, or the end
 
-  split : (xs : List A) (i : ℕ) (y : A) → i < length xs → y ≡ get_or xs i y → drop i xs ≡ y ∷ drop (i + 1) xs
-  split xs i y lt read = drop_more xs i y lt ∙ ap (λ z. z ∷ drop (i + 1) xs) (sym read)
+  goes : (y : A) (ys ps : List A) (m : ℕ) (b : Bool) → insert ys m x ≡ ps
+      → insert (y ∷ ys) (cond (not b) (1 + m) 0) x ≡ cond b (x ∷ y ∷ ys) (y ∷ ps)
+  goes y ys ps m true h = refl
+  goes y ys ps m false h =
+      let on : 1 + m ≡ suc m = omega arith in
+      ap (λ n. insert (y ∷ ys) n x) on ∙ ap (λ l. y ∷ l) h
 
-  pub behind_more : (xs : List A) (i : ℕ) (y : A) → i < length xs → y ≡ get_or xs i y → rank y ≤ rank x
-      → Behind xs i → Behind xs (i + 1)
-  behind_more xs i y lt read le h =
-      let e = split xs i y lt read in
-      let s : put rank x (drop i xs) ≡ y ∷ put rank x (drop (i + 1) xs) = rw e (put-behind y (drop (i + 1) xs) le) in
-      let t : take (i + 1) xs ≡ take i xs ++ y ∷ [] = rw read (take_more xs i y lt) in
-      h ∙ rw (s, t) (sym (append_assoc (take i xs) (y ∷ []) (put rank x (drop (i + 1) xs))))
+  abbrev over : A → Bool
+  over y = nat_lt (rank x) (rank y)
 
-  pub behind-ends : (xs : List A) (i : ℕ) (y : A) → i < length xs → y ≡ get_or xs i y → rank x < rank y
-      → Behind xs i → insert xs i x ≡ put rank x xs
-  behind-ends xs i y lt read over h =
-      let e = split xs i y lt read in
-      let s : put rank x (drop i xs) ≡ x ∷ drop i xs = rw e (put-before y (drop (i + 1) xs) over) in
-      sym (h ∙ ap (λ l. take i xs ++ l) s)
+  first-over : (xs : List A) → insert xs (position_or_len over xs) x ≡ put rank x xs
+  first-over [] = refl
+  first-over (y ∷ ys) = goes y ys (put rank x ys) (position_or_len over ys) (over y) (first-over ys)
 
-  pub behind-all : (xs : List A) (i : ℕ) → length xs ≤ i → Behind xs i → insert xs i x ≡ put rank x xs
-  behind-all xs i le h =
-      let e : drop i xs ≡ [] = drop_all i xs le in
-      let s : put rank x (drop i xs) ≡ x ∷ drop i xs = rw e in
-      sym (h ∙ ap (λ l. take i xs ++ l) s)
+  within : (xs : List A) → position_or_len over xs ≤ length xs
+  within [] = omega arith
+  within (y ∷ ys) =
+      let rest = within ys in
+      cond_both (not (over y)) (1 + position_or_len over ys) 0 (λ n. n ≤ length (y ∷ ys)) (λ _. omega arith) (λ _. omega arith)
+
+  or-end : (xs : List A) → unwrap_or (position over xs) (length xs) ≡ position_or_len over xs
+  or-end xs =
+      let n = position_or_len over xs in
+      let le = within xs in
+      cond_both (nat_lt n (length xs)) (Some n) None (λ o. unwrap_or o (length xs) ≡ n) (λ _. refl) (λ f. omega (arith, ltb-false n (length xs) f))
+
+  pub placed : (xs : List A) (i : ℕ) → i ≡ unwrap_or (position (λ y. nat_lt (rank x) (rank y)) xs) (length xs)
+      → insert xs i x ≡ put rank x xs
+  placed xs i is = ap (λ n. insert xs n x) (is ∙ or-end xs) ∙ first-over xs

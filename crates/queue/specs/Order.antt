@@ -1,6 +1,6 @@
 -- Lists in the order of a rank.
 use Rattle.std.specs.Prelude.{◌≡◌, ℕ, ◌<◌, ◌≤◌, Bool, cond, ◌⊎◌, List, [], ◌∷◌, ◌++◌, Some, None, Option, nat_lt}
-use Rattle.std.specs.List.{remove, slice_get}
+use Rattle.std.specs.List.{items_where_true, remove, slice_get}
 use Rattle.bounded.specs.Held.{unwanted}
 
 -- x before the first record of greater rank, so behind its equals
@@ -48,4 +48,5 @@ pub record OrderLaws {A : Type 0} (rank : A → ℕ) : Type 0 where
   pub placing : (x : A) (xs : List A) → Ascending rank xs → Placed rank x xs (put rank x xs)
   pub removing : (xs : List A) (i : ℕ) → StaysOrdered rank xs (remove xs i)
   pub dropping : (wanted : A → Bool) (xs : List A) → StaysOrdered rank xs (unwanted wanted xs)
+  pub retaining : (answers : List Bool) (xs : List A) → StaysOrdered rank xs (items_where_true answers xs)
   pub first : (xs : List A) → Ascending rank xs → Foremost rank (slice_get xs 0) xs

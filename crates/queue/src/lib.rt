@@ -1,13 +1,14 @@
 // A list of at most N records in the order of their ranks, equals as they came.
 #![tactic(auto)]
 
-ghost use Rattle.std.specs.Prelude.{◌≡◌, ◌≤◌, [], length, is_ok, if◌then◌else◌, nat_lt};
-ghost use Rattle.std.specs.List.{insert, remove, slice_get};
-ghost use Rattle.bounded.specs.Held.{unwanted};
+ghost use Rattle.std.specs.Prelude.{◌≡◌, ◌≤◌, [], length, is_ok, if◌then◌else◌, nat_lt, position, unwrap_or};
+ghost use Rattle.std.specs.Fn.{CalledAt};
+ghost use Rattle.std.specs.List.{remove, slice_get};
+ghost use Rattle.std.specs.List.Retain.{IsFiltered};
 ghost use Rattle.queue.specs.Held.{held};
 ghost use Rattle.queue.specs.Order.{OrderLaws, StaysOrdered, put};
 
-use bounded::{Bounded, Full, Select};
+use bounded::{Bounded, Full};
 
 mod ranked;
 #[cfg(test)]
@@ -25,6 +26,13 @@ fn precedes<T: Ranked>(x: &T, y: &T) -> bool
     ensures { result ≡ nat_lt (T.Ranked.order x.now) (T.Ranked.order y.now) }
 {
     x.rank() < y.rank()
+}
+
+// The first record that x precedes.
+fn first_over<T: Ranked>(list: &[T], x: &T) -> Option<usize>
+    ensures { result ≡ position (λ y. nat_lt (T.Ranked.order x.now) (T.Ranked.order y)) list.now }
+{
+    list.iter().position(|y| precedes(x, y))
 }
 
 impl<T: Ranked, const N: usize> Queue<T, N> {
@@ -68,26 +76,18 @@ impl<T: Ranked, const N: usize> Queue<T, N> {
         ensures after { held self.new ≡ (if is_ok result then put T.Ranked.order x (held self.old) else held self.old) }
         ensures ordered { StaysOrdered T.Ranked.order (held self.old) (held self.new) }
     {
-        let i = self.place(&x);
         // The place is never past the end, so only want of room refuses.
-        match self.list.insert(i, x) {
-            Ok(()) => Ok(()),
-            Err(_) => Err(Full),
-        }
+        let i = self.place(&x);
+        self.list.insert(i, x).map_err(|_| Full)
     }
 
     // The place of x: before the first record that it precedes.
     fn place(&self, x: &T) -> usize
         ensures within { result ≤ length (held self.now) }
-        ensures spot { insert (held self.now) result x.now ≡ put T.Ranked.order x.now (held self.now) }
+        ensures spot { result ≡ unwrap_or (position (λ y. nat_lt (T.Ranked.order x.now) (T.Ranked.order y)) (held self.now)) (length (held self.now)) }
     {
         let list = self.as_slice();
-        for (i, y) in list.iter().enumerate() {
-            if precedes(x, y) {
-                return i;
-            }
-        }
-        list.len()
+        first_over(list, x).unwrap_or(list.len())
     }
 
     pub fn take_first(&mut self) -> Option<T>
@@ -105,11 +105,13 @@ impl<T: Ranked, const N: usize> Queue<T, N> {
         self.list.remove(i)
     }
 
-    // Drops each record that s wants, and keeps the others in their order.
-    pub fn drop_where<S: Select<T>>(&mut self, s: &S)
-        ensures { held self.new ≡ unwanted (S.Select.wanted s.now) (held self.old) }
+    // Keeps the records that `keep` answers true for, in their order.
+    pub fn retain<F: FnMut(&T) -> bool>(&mut self, keep: F)
+        requires { F.IsAlwaysCallable keep }
+        ensures filtered { IsFiltered (CalledAt F.FnMut) keep (held self.old) (held self.new) }
+        ensures bound { length (held self.new) ≤ length (held self.old) }
     {
-        self.list.drop_where(s);
+        self.list.retain(keep);
     }
 
     // No call breaks the order, and its first record has the least rank.

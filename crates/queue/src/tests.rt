@@ -1,5 +1,3 @@
-ghost use Rattle.std.specs.Prelude.{◌==◌};
-
 use super::*;
 use std::test::Fail;
 
@@ -11,16 +9,6 @@ impl Ranked for Job {
 
     fn rank(&self) -> u64 {
         self.0
-    }
-}
-
-struct SentBy(u8);
-
-impl Select<Job> for SentBy {
-    ghost wanted = { λ s job. (job.1 == s.0) };
-
-    fn wants(&self, job: &Job) -> bool {
-        job.1 == self.0
     }
 }
 
@@ -47,12 +35,12 @@ fn equals_stay_as_they_came(rt: HostRuntime) -> Result<(), Fail> {
 #[test]
 fn drops_none_some_and_all(rt: HostRuntime) -> Result<(), Fail> {
     let mut q = queued()?;
-    q.drop_where(&SentBy(4));
+    q.retain(|job| job.1 != 4);
     assert_eq!(rt; q.len(), 4);
-    q.drop_where(&SentBy(2));
+    q.retain(|job| job.1 != 2);
     assert_eq!(rt; q.as_slice(), &[(3, 3), (5, 1)][..]);
-    q.drop_where(&SentBy(1));
-    q.drop_where(&SentBy(3));
+    q.retain(|job| job.1 != 1);
+    q.retain(|job| job.1 != 3);
     assert_eq!(rt; q.take_first(), None);
     Ok(())
 }

@@ -1,8 +1,14 @@
-use Rattle.std.proofs.Common.{◌∙◌, rules}
-use Rattle.queue.proofs.Order.{put-ascends}
+use Rattle.std.proofs.Common.{rules}
+use Rattle.queue.proofs.Order.{inserted-ascends}
+use Rattle.queue.proofs.Place.{placed}
 use Rattle.queue.proofs.Queue.insert.Goals as goal
 
-pub returns-in-Ok : goal.returns-in-Ok
-returns-in-Ok g c =
-    let after = c.in-Ok.ensures.after ∙ c.place-i.ensures.spot in
-    record { answer = search rules; after = after; ordered = λ h. rw after (put-ascends _ _ _ h) }
+pub returns-clause-after : goal.returns-clause-after
+returns-clause-after g c =
+    let spot = placed g.T.Ranked.order c.args.x _ _ c.place-i.ensures.spot in
+    search (rules, spot)
+
+pub returns-clause-ordered : goal.returns-clause-ordered
+returns-clause-ordered g c =
+    let spot = placed g.T.Ranked.order c.args.x _ _ c.place-i.ensures.spot in
+    inserted-ascends g.T.Ranked.order c.args.x _ _ _ _ spot c.insert.ensures.after
