@@ -3,6 +3,7 @@ use Rattle.std.proofs.Common.{◌≡◌, ℕ, zero, suc, ◌+◌, ◌≤◌, Lis
 use mir.ValLaws.{of_z_fits}
 use Rattle.std.proofs.lemmas.List.{take_at, drop_at}
 use Rattle.std.proofs.lemmas.Int.{to_z-of_z, ints}
+use Rattle.line.specs.Numbers.{kind_number}
 use Rattle.line.specs.Plan.{Plan}
 use Rattle.line.specs.Rules.{Plain, Word, Possible, Begins, Ends, Bypass, Proper, longest}
 use Rattle.line.specs.declared.parts.Kind.{Kind}
@@ -15,14 +16,14 @@ use Rattle.line.specs.declared.parts.Sink.TheVariants.{Inlet, Actuator}
 use Rattle.line.specs.declared.parts.Channel.{Channel}
 use Rattle.image.specs.Bytes.{le, val, between}
 use Rattle.image.specs.Drafts.{counts_at}
-use Rattle.image.specs.Encoding.{sensor_bytes, actor_bytes, channel_bytes, source_bytes, sink_bytes, kind_number}
+use Rattle.image.specs.Encoding.{sensor_bytes, actor_bytes, channel_bytes, source_bytes, sink_bytes}
 use Rattle.image.specs.Fields.{BadSensorField, BadSource, BadSink, Counted, source_sort}
-use Rattle.image.specs.Reading.{Nowhere}
+use Rattle.image.specs.Reading.{Nowhere, Placed}
 use Rattle.image.specs.Refusals.{byte, BadActorField, BadChannelField}
 use Rattle.image.specs.declared.counts.Counts.{Counts}
 use Rattle.image.proofs.Fields.{actor-fields, bytes-six, fields, length-source, sort-of}
-use Rattle.image.proofs.Numbers.{val-le}
-use Rattle.image.proofs.Spelling.{parts, byte_of}
+use Rattle.image.proofs.Numbers.{val-le, byte_of}
+use Rattle.image.proofs.Spelling.{parts}
 
 -- a number of four bytes
 four : (x : ℕ) → x ≤ longest → val (le 4 x) ≡ x
@@ -37,7 +38,7 @@ bits z w = val-le 4 (of_z w32 z) (of_z_fits w32 z (word_fits z w)).fits
 -- sensors
 
 pub sensor-clean : (bs : List ℕ) (b l : ℕ) → l ≤ longest → sensor_bytes l ≡ between b 4 bs
-    → Nowhere (BadSensorField bs b)
+    → Nowhere (Placed BadSensorField 4 bs b)
 sensor-clean bs b l h e k x = omega (arith, x.1, ap val (sym e) ∙ four l h)
 
 pub sensor-same : (l m : ℕ) → l ≤ longest → m ≤ longest → sensor_bytes l ≡ sensor_bytes m → l ≡ m

@@ -14,7 +14,7 @@ use Rattle.image.specs.Bytes.{between}
 use Rattle.image.specs.Drafts.{counts_at}
 use Rattle.image.specs.Encoding.{image, mark, counts, sensor_bytes, actor_bytes, channel_bytes}
 use Rattle.image.specs.Fields.{BadSensorField, Counted}
-use Rattle.image.specs.Reading.{Nowhere, BadField}
+use Rattle.image.specs.Reading.{Nowhere, BadField, Placed}
 use Rattle.image.specs.Refusals.{byte, most, BadActorField, BadChannelField, Uncounted, Unmarked, Faulty}
 use Rattle.image.proofs.Accepted.{sensor-clean, sensor-same, actor-clean, actor-same, channel-clean, channel-same}
 use Rattle.image.proofs.Order.{sensors}
@@ -55,7 +55,7 @@ module _ (p : Plan) (s : Sized p) (r : Ranged p) where
 
   no_field : Nowhere (BadField (image p))
   no_field k = ⊎_elim
-      (λ b. row-clean sensor_bytes 4 (λ x. refl) (image p) BadSensorField p.sensors 9 0 (sensors-at p)
+      (λ b. row-clean sensor_bytes 4 (λ x. refl) (image p) (Placed BadSensorField 4) p.sensors 9 0 (sensors-at p)
       (λ i at l. sensor-clean (image p) at (get_or p.sensors i 0) (r.latenesses i l)) k ((sensors (image p)).back k b))
       (⊎_elim
       (row-clean actor_bytes 9 (λ x. refl) (image p) BadActorField p.actors _ nobody (actors_at p)

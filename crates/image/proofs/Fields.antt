@@ -1,5 +1,5 @@
 -- The fields of one record, read from its bytes.
-use Rattle.std.proofs.Common.{◌≡◌, ℕ, ◌+◌, ◌<◌, ◌≤◌, ◌⊎◌, List, [], ◌∷◌, ◌++◌, length, get_or, take, ℤ, pos, sym, refl, ap, ◌∙◌, subst, inl, inr, ⊎_elim, arith, w32, SFits, to_z, of_z}
+use Rattle.std.proofs.Common.{◌≡◌, ℕ, ◌+◌, ◌<◌, ◌≤◌, ◌⊎◌, List, [], ◌∷◌, ◌++◌, length, get_or, take, ℤ, pos, ◌≢◌, sym, refl, ap, ◌∙◌, subst, inl, inr, ⊎_elim, arith, w32, SFits, to_z, of_z}
 use Rattle.std.proofs.lemmas.List.{drop_more}
 use Rattle.std.proofs.lemmas.Int.{to_z-of_z}
 use Rattle.line.specs.Rules.{longest}
@@ -8,12 +8,12 @@ use Rattle.line.specs.declared.parts.Source.TheVariants.{Sensor, Outlet}
 use Rattle.image.specs.Bytes.{val, between}
 use Rattle.image.specs.Drafts.{counts_at}
 use Rattle.image.specs.Encoding.{source_bytes}
-use Rattle.image.specs.Fields.{BadActorOf, BadSource, BadSink, source_sort}
-use Rattle.image.specs.Reading.{Nowhere, Lowest}
+use Rattle.image.specs.Fields.{BadActorOf, BadChannelOf, BadSource, BadSink, source_sort}
+use Rattle.image.specs.Reading.{Nowhere, Lowest, Placed}
 use Rattle.image.specs.Refusals.{byte, BadActorField, BadChannelField}
 use Rattle.image.specs.declared.counts.Counts.{Counts}
-use Rattle.image.proofs.Judging.{Same, lowest-same, low-left, low-right}
-use Rattle.image.proofs.Numbers.{between-add, bytes-at}
+use Rattle.image.proofs.Judging.{Same, low-left, low-right}
+use Rattle.image.proofs.Numbers.{between-add, bytes-at, byte_of, between-within}
 
 -- only 0 has the bits of 0
 zero_bits : (z : ℤ) → SFits w32 z → of_z w32 z ≡ 0 → z ≡ pos 0
@@ -85,18 +85,44 @@ module _ (bs : List ℕ) (b : ℕ) (n : Counts) (counted : n ≡ counts_at bs) w
       (subst (λ (f : ℕ). Same (λ k. Src (counts_at bs) k ⊎ Snk (counts_at bs) f k) (BadChannelField bs b)) (sym e)
       record { to = λ k. join; back = λ k. part })
 
-  late : (from k : ℕ) → Snk n from k → 3 ≤ k
-  late from k = ⊎_elim (λ x. omega (arith, x.0)) (⊎_elim (λ x. omega (arith, x.0)) (λ x. omega (arith, x.0)))
+module _ (r : List ℕ) (n : Counts) where
+  abbrev First : ℕ → Type 0
+  First k = BadSource n (byte r 0) (byte r 1) (byte r 2) k
 
-  pub source-low : (j : ℕ) → j < 3 → Lowest (Src n) j → Lowest (BadChannelField bs b) j
-  source-low j l low =
-      lowest-same _ _ j (fields (byte bs b) refl)
-      (low-left (Src n) (Snk n (byte bs b)) j low (λ k x. omega (arith, late (byte bs b) k x)))
+  abbrev Second : ℕ → ℕ → Type 0
+  Second from k = BadSink n from (byte r 3) (byte r 4) (byte r 5) k
 
-  pub sink-low : (from j : ℕ) → from ≡ byte bs b → Nowhere (Src n) → Lowest (Snk n from) j
-      → Lowest (BadChannelField bs b) j
-  sink-low from j e none low = lowest-same _ _ j (fields from e) (low-right (Src n) (Snk n from) j none low)
+  late : (k : ℕ) → Second (byte r 0) k → 3 ≤ k
+  late k = ⊎_elim (λ x. omega (arith, x.0)) (⊎_elim (λ x. omega (arith, x.0)) (λ x. omega (arith, x.0)))
 
-  pub channel-clean : (from : ℕ) → from ≡ byte bs b → Nowhere (Src n) → Nowhere (Snk n from)
-      → Nowhere (BadChannelField bs b)
-  channel-clean from e none none' k x = ⊎_elim (none k) (none' k) ((fields from e).back k x)
+  pub source-low : (j : ℕ) → j < 3 → Lowest First j → Lowest (BadChannelOf n r) j
+  source-low j l low = low-left First (Second (byte r 0)) j low (λ k x. omega (arith, late k x))
+
+  pub sink-low : (from j : ℕ) → from ≡ byte r 0 → Nowhere First → Lowest (Second from) j → Lowest (BadChannelOf n r) j
+  sink-low from j e none low =
+      low-right First (Second (byte r 0)) j none (subst (λ (f : ℕ). Lowest (Second f) j) e low)
+
+  pub channel-clean : (from : ℕ) → from ≡ byte r 0 → Nowhere First → Nowhere (Second from) → Nowhere (BadChannelOf n r)
+  channel-clean from e none none' k x =
+      ⊎_elim (none k) (subst (λ (f : ℕ). Nowhere (Second f)) e none' k) x
+
+-- what is said of a record's own bytes is said of them in the image
+
+abbrev ActorBits : ℕ → ℕ → ℕ → ℕ → Type 0
+ActorBits kind parameter delay j =
+    ((j ≡ 0) × (6 < kind)) ⊎ (((j ≡ 1) × (kind ≤ 3) × (parameter ≢ 0)) ⊎ ((j ≡ 5) × (longest < delay)))
+
+same_bits : {k l p q d e : ℕ} → k ≡ l → p ≡ q → d ≡ e → Same (ActorBits k p d) (ActorBits l q e)
+same_bits kind parameter delay = rw (kind, parameter, delay) record { to = λ j x. x; back = λ j x. x }
+
+pub actor-placed : (bs : List ℕ) (b : ℕ) → Same (Placed (λ r. BadActorField r 0) 9 bs b) (BadActorField bs b)
+actor-placed bs b =
+    let zero : b + 0 ≡ b = omega arith in
+    same_bits (sym (byte_of bs b 9 0 (omega arith)) ∙ ap (byte bs) zero)
+    (ap val (between-within b 1 4 4 bs)) (ap val (between-within b 5 4 0 bs))
+
+pub channel-placed : (bs : List ℕ) (b : ℕ) (n : Counts) → n ≡ counts_at bs → b + 6 ≤ length bs
+    → Same (Placed (BadChannelOf n) 6 bs b) (BadChannelField bs b)
+channel-placed bs b n counted h =
+    subst (λ (r : List ℕ). Same (BadChannelOf n r) (BadChannelField bs b)) (bytes-six bs b h)
+    (fields bs b n counted (byte bs b) refl)

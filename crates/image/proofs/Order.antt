@@ -8,13 +8,13 @@ use Rattle.fault.specs.declared.Fault.{Fault}
 use Rattle.line.specs.Rules.{longest}
 use Rattle.image.specs.Bytes.{val, between}
 use Rattle.image.specs.Fields.{BadSensorField}
-use Rattle.image.specs.Reading.{Nowhere, Lowest, BadRow, BadField}
+use Rattle.image.specs.Reading.{Nowhere, Lowest, BadRow, BadField, Placed}
 use Rattle.image.specs.Refusals.{byte, actors_at, channels_at, Unmarked, Uncounted, Unfit, BadSensor, BadActor, BadChannel, Faulty, First}
 use Rattle.image.proofs.Judging.{Same, lowest-same, low-left, low-right}
 
 module _ (bs : List ℕ) where
   abbrev BadSensors : ℕ → Type 0
-  BadSensors k = BadRow BadSensorField 4 bs 9 (byte bs 5) k
+  BadSensors k = BadRow (Placed BadSensorField 4) 4 bs 9 (byte bs 5) k
 
   pub sensors : Same BadSensors (BadSensor bs)
   sensors = record {

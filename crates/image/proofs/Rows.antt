@@ -1,12 +1,13 @@
 -- Records of one width, one after another.
-use Rattle.std.proofs.Common.{◌≡◌, ℕ, suc, ◌+◌, ◌*◌, ◌<◌, ◌≤◌, List, [], ◌∷◌, ◌++◌, length, get_or, take, sym, refl, ap, ◌∙◌, subst, ⊎_elim, mul-zero, mul-suc, add-one, arith}
+use Rattle.std.proofs.Common.{◌≡◌, ℕ, suc, ◌+◌, ◌-◌, ◌*◌, ◌<◌, ◌≤◌, List, [], ◌∷◌, ◌++◌, length, get_or, take, drop, sym, refl, ap, ◌∙◌, subst, ⊎_elim, mul-zero, mul-suc, add-one, arith}
 use Rattle.std.specs.List.{flat_map}
 use Rattle.std.proofs.lemmas.Nat.{mul-le}
 use Rattle.std.proofs.ByRecursion.{All-push}
-use Rattle.std.proofs.lemmas.List.{length-append, length_push, take_more, flat_map_more, length-take-le}
-use Rattle.std.proofs.lemmas.Bool.{cases_order}
+use Rattle.std.proofs.lemmas.List.{length-append, length_push, take_at, drop_at, drop-drop, length-drop, take_more, flat_map_more, length-take-le}
+use Rattle.std.proofs.lemmas.Bool.{cases_order, cases_lt}
 use Rattle.image.specs.Bytes.{between, put}
 use Rattle.image.specs.Reading.{Lowest, Got, GotAll, BadRow}
+use Rattle.image.proofs.Judging.{Same}
 use Rattle.image.proofs.Numbers.{between-add}
 use Rattle.image.proofs.Puts.{put_next}
 
@@ -72,3 +73,32 @@ module _ {X : Type 0} (f : X → List ℕ) (w : ℕ) (fine : X → Type 0) (bad 
           (cases_order b.0 i);
     },
   )
+
+-- the next w bytes, and what follows them
+pub next-part : (at w i : ℕ) (bs rest x more : List ℕ) → rest ≡ drop (at + w * i) bs → rest ≡ x ++ more → length x ≡ w
+    → (x ≡ between (at + w * i) w bs) × (more ≡ drop (at + w * (i + 1)) bs)
+next-part at w i bs rest x more e split l =
+    let whole : x ++ more ≡ drop (at + w * i) bs = sym split ∙ e in
+    let place : at + w * i + w ≡ at + w * (i + 1) = omega (arith, one_more w i) in (
+      sym (take_at x more w l) ∙ ap (take w) whole,
+      sym (drop_at x more w l) ∙ ap (drop w) whole ∙ drop-drop w (at + w * i) bs ∙ ap (λ k. drop k bs) place,
+    )
+
+-- a run of chunks that has ended has had them all
+pub all_read : (at w i left many : ℕ) (bs rest : List ℕ) → left + i ≡ many → rest ≡ drop (at + w * i) bs
+    → at + w * many ≤ length bs → (0 < left → length rest < w) → i ≡ many
+all_read at w i left many bs rest count e room end =
+    ⊎_elim (λ (none : left < 1). omega (arith, count))
+    (λ (some : 1 ≤ left).
+    let long : length rest ≡ length bs - (at + w * i) = ap length e ∙ length-drop (at + w * i) bs in
+    absurd (omega (arith, end some, before w i many (omega (arith, count)), long)))
+    (cases_lt left 1)
+
+-- the same is said of each record
+pub rows-same : (bad other : List ℕ → ℕ → ℕ → Type 0) (w : ℕ) (bs : List ℕ) (at n : ℕ)
+    → ((i : ℕ) → i < n → Same (bad bs (at + w * i)) (other bs (at + w * i)))
+    → Same (BadRow bad w bs at n) (BadRow other w bs at n)
+rows-same bad other w bs at n s = record {
+  to = λ k b. (b.0, b.1, b.2, b.3, (s b.0 b.2).to b.1 b.4);
+  back = λ k b. (b.0, b.1, b.2, b.3, (s b.0 b.2).back b.1 b.4);
+}

@@ -1,7 +1,7 @@
 -- Where the records of a plan stand in its image.
 use Rattle.std.proofs.Common.{◌≡◌, ℕ, zero, suc, ◌+◌, ◌*◌, ◌<◌, List, [], ◌∷◌, ◌++◌, length, get_or, take, drop, sym, refl, ap, ◌∙◌, mul-zero, mul-suc, arith}
 use Rattle.std.specs.List.{flat_map}
-use Rattle.std.proofs.lemmas.List.{append_assoc, append-nil, length-append, take_at, drop_at, take-take, drop-take, drop-drop, get_or-take, get_or-drop}
+use Rattle.std.proofs.lemmas.List.{append_assoc, append-nil, length-append, take_at, drop_at, take-take, drop-take, drop-drop}
 use Rattle.line.specs.Plan.{Plan}
 use Rattle.line.specs.declared.parts.Channel.{Channel}
 use Rattle.line.specs.declared.parts.Sink.{Sink}
@@ -11,7 +11,6 @@ use Rattle.image.specs.Drafts.{counts_of}
 use Rattle.image.specs.declared.counts.Counts.{Counts}
 use Rattle.image.specs.Encoding.{image, mark, counts, size, sensor_bytes, actor_bytes, channel_bytes, source_bytes, sink_bytes}
 use Rattle.image.specs.Reading.{Nowhere, BadRow}
-use Rattle.image.specs.Refusals.{byte}
 use Rattle.image.proofs.Fields.{length-source}
 use Rattle.image.proofs.Puts.{put_next}
 use Rattle.image.proofs.Rows.{length-flat_map}
@@ -23,9 +22,6 @@ parts x s bs at w m l e = (
   sym (take_at x s w l) ∙ ap (take w) e ∙ take-take w (w + m) (drop at bs) (omega arith),
   sym (drop_at x s w l) ∙ ap (drop w) e ∙ drop-take w m (drop at bs) ∙ ap (take m) (drop-drop w at bs),
 )
-
-pub byte_of : (bs : List ℕ) (at n k : ℕ) → k < n → byte bs (at + k) ≡ get_or (between at n bs) k 0
-byte_of bs at n k l = sym (get_or-take n (drop at bs) k 0 l ∙ get_or-drop at bs k 0)
 
 module _ {X : Type 0} (f : X → List ℕ) (w : ℕ) (even : (x : X) → length (f x) ≡ w) (bs : List ℕ) where
   -- record i of a row

@@ -3,9 +3,8 @@ use Rattle.std.specs.Prelude.{ℕ, ◌+◌, ◌*◌, List, [], ◌∷◌, ◌++�
 use Rattle.std.specs.Int.{w32}
 use Rattle.std.proofs.Common.{of_z}
 use Rattle.std.specs.List.{flat_map}
+use Rattle.line.specs.Numbers.{kind_number}
 use Rattle.line.specs.Plan.{Plan}
-use Rattle.line.specs.declared.parts.Kind.{Kind}
-use Rattle.line.specs.declared.parts.Kind.TheVariants.{Pass, Count, Gate, Toggle, Scale, Sort, Other}
 use Rattle.line.specs.declared.parts.Actor.{Actor}
 use Rattle.line.specs.declared.parts.Source.{Source}
 use Rattle.line.specs.declared.parts.Source.TheVariants.{Sensor, Outlet}
@@ -21,15 +20,6 @@ mark = 76 ∷ 73 ∷ 78 ∷ 1 ∷ 0 ∷ []
 -- a sensor is its lateness
 abbrev pub sensor_bytes : ℕ → List ℕ
 sensor_bytes l = le 4 l
-
-abbrev pub kind_number : Kind → ℕ
-kind_number Pass = 0
-kind_number Count = 1
-kind_number Gate = 2
-kind_number Toggle = 3
-kind_number Scale = 4
-kind_number Sort = 5
-kind_number Other = 6
 
 -- kind, parameter (two's complement) and delay
 abbrev pub actor_bytes : Actor → List ℕ

@@ -9,10 +9,12 @@ use Rattle.line.specs.declared.parts.Sink.{Sink}
 use Rattle.line.specs.declared.parts.Channel.{Channel}
 use Rattle.line.specs.declared.parts.Source.{Source}
 use Rattle.line.specs.declared.parts.Source.TheVariants.{Sensor, Outlet}
-use Rattle.image.specs.Bytes.{le, val, between}
+use Rattle.image.specs.Bytes.{le, val}
 use Rattle.image.specs.Encoding.{actor_bytes, source_bytes, sink_bytes}
 use Rattle.image.specs.Reading.{Judged}
+use Rattle.image.specs.Refusals.{byte}
 use Rattle.image.specs.declared.counts.Counts.{Counts}
+use Rattle.image.specs.declared.row.FieldError.{FieldError}
 
 -- the plan has as many records as the counts say
 pub record Counted (n : Counts) (p : Plan) : Type 0 where
@@ -36,9 +38,9 @@ Stops n x y = InPlans n (λ p. Ends p y) × (Bypass x y → ⊥)
 abbrev pub Wired : Counts → Channel → Type 0
 Wired n c = InPlans n (λ p. Proper p c)
 
--- the field at the offset j of a sensor at b
-abbrev pub BadSensorField : List ℕ → ℕ → ℕ → Type 0
-BadSensorField bs b j = (j ≡ 0) × (longest < val (between b 4 bs))
+-- the field at the offset j of a sensor of these bytes
+abbrev pub BadSensorField : List ℕ → ℕ → Type 0
+BadSensorField bytes j = (j ≡ 0) × (longest < val bytes)
 
 -- of an actor, and its bytes: kind, parameter, delay
 abbrev pub BadActorOf : ℕ → ℤ → ℕ → ℕ → Type 0
@@ -51,7 +53,7 @@ abbrev pub fields_bytes : ℕ → ℤ → ℕ → List ℕ
 fields_bytes kind parameter delay = kind ∷ (le 4 (of_z w32 parameter) ++ le 4 delay)
 
 -- the actor of these fields, or the offset of the lowest bad one
-abbrev pub ActorOf : ℕ → ℤ → ℕ → Result Actor ℕ → Type 0
+abbrev pub ActorOf : ℕ → ℤ → ℕ → Result Actor FieldError → Type 0
 ActorOf kind parameter delay r =
     Judged actor_bytes Possible (BadActorOf kind parameter delay) (fields_bytes kind parameter delay) 9 r
 
@@ -62,7 +64,7 @@ BadSource n sort number outlet j =
     ⊎ (((j ≡ 1) × (((sort ≡ 0) × (n.sensors ≤ number)) ⊎ ((sort ≡ 1) × (n.actors ≤ number))))
     ⊎ ((j ≡ 2) × (((sort ≡ 0) × (0 < outlet)) ⊎ ((sort ≡ 1) × (3 < outlet)))))
 
-abbrev pub SourceOf : Counts → ℕ → ℕ → ℕ → Result Source ℕ → Type 0
+abbrev pub SourceOf : Counts → ℕ → ℕ → ℕ → Result Source FieldError → Type 0
 SourceOf n sort number outlet r =
     Judged source_bytes (Starts n) (BadSource n sort number outlet) (sort ∷ number ∷ outlet ∷ []) 3 r
 
@@ -77,6 +79,12 @@ BadSink n from sort number inlet j =
     ⊎ (((j ≡ 4) × (((sort ≡ 0) × (n.actors ≤ number)) ⊎ ((sort ≡ 1) × (n.actuators ≤ number))))
     ⊎ ((j ≡ 5) × (((sort ≡ 0) × (3 < inlet)) ⊎ ((sort ≡ 1) × (0 < inlet)))))
 
-abbrev pub SinkOf : Counts → Source → ℕ → ℕ → ℕ → Result Sink ℕ → Type 0
+abbrev pub SinkOf : Counts → Source → ℕ → ℕ → ℕ → Result Sink FieldError → Type 0
 SinkOf n x sort number inlet r =
     Judged sink_bytes (Stops n x) (BadSink n (source_sort x) sort number inlet) (sort ∷ number ∷ inlet ∷ []) 6 r
+
+-- of a channel of these bytes
+abbrev pub BadChannelOf : Counts → List ℕ → ℕ → Type 0
+BadChannelOf n bytes j =
+    BadSource n (byte bytes 0) (byte bytes 1) (byte bytes 2) j
+    ⊎ BadSink n (byte bytes 0) (byte bytes 3) (byte bytes 4) (byte bytes 5) j

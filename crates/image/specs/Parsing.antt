@@ -14,6 +14,10 @@ pub record Drafted (bs : List ℕ) (d : Draft) : Type 0 where
   pub sized : Sized (plan_of d)
   pub ranged : Ranged (plan_of d)
 
--- the draft, or the first refusal, which is one of bytes or fields
+-- f is the first refusal, and one of bytes or fields
+abbrev pub Refused : List ℕ → Fault → Type 0
+Refused bs f = First bs f × ((entry f).number ≤ 4)
+
+-- the draft, or the refusal
 abbrev pub Parsed : List ℕ → Result Draft Fault → Type 0
-Parsed bs r = MatchResult r (Drafted bs) (λ f. First bs f × ((entry f).number ≤ 4))
+Parsed bs r = MatchResult r (Drafted bs) (Refused bs)

@@ -2,6 +2,7 @@
 use Rattle.std.specs.Prelude.{◌≡◌, ℕ, ◌+◌, ◌*◌, ◌<◌, ◌≤◌, ◌⊎◌, List, length, Result, MatchResult}
 use Rattle.std.specs.List.{flat_map, AllByRecursion}
 use Rattle.fault.specs.declared.Fault.{Fault}
+use Rattle.fault.specs.declared.RecordsCause.TheVariants.{Field}
 use Rattle.bounded.specs.Held.{held}
 use Rattle.bounded.specs.declared.Bounded.{Bounded}
 use Rattle.image.specs.Bytes.{between}
@@ -9,6 +10,7 @@ use Rattle.image.specs.Drafts.{counts_at}
 use Rattle.image.specs.Encoding.{mark, size}
 use Rattle.image.specs.Refusals.{BadSensor, BadActor, BadChannel}
 use Rattle.image.specs.declared.counts.Counts.{Counts}
+use Rattle.image.specs.declared.row.FieldError.{FieldError}
 
 -- each is a byte
 abbrev pub Octets : List ℕ → Type 0
@@ -37,14 +39,8 @@ pub record Got
 
 -- the record of these bytes, or the offset of its lowest bad field, below w
 abbrev pub Judged :
-    {X : Type 0} → (X → List ℕ) → (X → Type 0) → (ℕ → Type 0) → List ℕ → ℕ → Result X ℕ → Type 0
-Judged spelt fine bad bytes w r = MatchResult r (Got spelt fine bad bytes) (λ j. (j < w) × Lowest bad j)
-
--- the same for the w bytes from the place at on
-abbrev pub ReadOne :
-    {X : Type 0} → (X → List ℕ) → ℕ → (X → Type 0) → (List ℕ → ℕ → ℕ → Type 0)
-    → List ℕ → ℕ → Result X ℕ → Type 0
-ReadOne spelt w fine bad bs at r = Judged spelt fine (bad bs at) (between at w bs) w r
+    {X : Type 0} → (X → List ℕ) → (X → Type 0) → (ℕ → Type 0) → List ℕ → ℕ → Result X FieldError → Type 0
+Judged spelt fine bad bytes w r = MatchResult r (Got spelt fine bad bytes) (λ e. (e.offset < w) × Lowest bad e.offset)
 
 -- of n records of w bytes from the place at on, a bad field is at k
 abbrev pub BadRow : (List ℕ → ℕ → ℕ → Type 0) → ℕ → List ℕ → ℕ → ℕ → ℕ → Type 0
@@ -60,12 +56,25 @@ pub record GotAll
   pub in_range : AllByRecursion fine xs
   pub clean : Nowhere (BadRow bad w bs at n)
 
--- the n records, or the lowest place of a bad field, which lies among them
+-- what bad says of a record's bytes, of the w bytes from the place at on
+abbrev pub Placed : (List ℕ → ℕ → Type 0) → ℕ → List ℕ → ℕ → ℕ → Type 0
+Placed bad w bs at = bad (between at w bs)
+
+-- the record of these w bytes, or the refusal at its lowest bad field
+abbrev pub ReadOne :
+    {X : Type 0} → (X → List ℕ) → ℕ → (X → Type 0) → (List ℕ → ℕ → Type 0)
+    → List ℕ → ℕ → Result X Fault → Type 0
+ReadOne spelt w fine bad bs at r =
+    MatchResult r (Got spelt fine (Placed bad w bs at) (between at w bs))
+    (λ f. (j : ℕ) × (f ≡ Fault.Records Field (at + j)) × (j < w) × Lowest (Placed bad w bs at) j)
+
+-- the n records, or the refusal at the lowest place of a bad field, which lies among them
 abbrev pub ReadAll :
-    {X : Type 0} {most : ℕ} → (X → List ℕ) → ℕ → (X → Type 0) → (List ℕ → ℕ → ℕ → Type 0)
-    → List ℕ → ℕ → ℕ → Result (Bounded X most) ℕ → Type 0
+    {X : Type 0} {most : ℕ} → (X → List ℕ) → ℕ → (X → Type 0) → (List ℕ → ℕ → Type 0)
+    → List ℕ → ℕ → ℕ → Result (Bounded X most) Fault → Type 0
 ReadAll spelt w fine bad bs at n r =
-    MatchResult r (λ b. GotAll spelt w fine bad bs at n (held b)) (λ k. (k < at + w * n) × Lowest (BadRow bad w bs at n) k)
+    MatchResult r (λ b. GotAll spelt w fine (Placed bad w) bs at n (held b))
+    (λ f. (k : ℕ) × (f ≡ Fault.Records Field k) × (k < at + w * n) × Lowest (BadRow (Placed bad w) w bs at n) k)
 
 -- the bytes begin with the mark, have these counts, each in its range, and the length that they ask for
 pub record Fronted (bs : List ℕ) (n : Counts) : Type 0 where

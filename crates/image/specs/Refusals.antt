@@ -14,9 +14,12 @@ use Rattle.image.specs.Encoding.{image, mark, size}
 abbrev pub byte : List ℕ → ℕ → ℕ
 byte bs k = slice_index bs k
 
--- the greatest count of sensors, actors, actuators and channels
+-- the greatest counts of sensors, actors, actuators and channels
+abbrev pub mosts : List ℕ
+mosts = 16 ∷ 32 ∷ 16 ∷ 96 ∷ []
+
 abbrev pub most : ℕ → ℕ
-most k = slice_index (16 ∷ 32 ∷ 16 ∷ 96 ∷ []) k
+most k = slice_index mosts k
 
 -- where the actors and the channels begin
 abbrev pub actors_at : List ℕ → ℕ

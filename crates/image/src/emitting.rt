@@ -12,14 +12,17 @@ use crate::row::write_all;
 use crate::words::put_bytes;
 use fault::{Fault, RunCause};
 
-fn counts_of(draft: &Draft) -> Counts
-    ensures { result ≡ counts_of (plan_of draft.now) }
-{
-    Counts {
-        sensors: draft.sensors.len() as u8,
-        actors: draft.actors.len() as u8,
-        actuators: draft.actuators,
-        channels: draft.channels.len() as u8,
+impl From<&Draft> for Counts {
+    ghost from_gives = { λ draft counts. counts ≡ counts_of (plan_of draft.now) };
+
+    fn from(draft: &Draft) -> Counts {
+        // `as`: a `try_from` would never fail here, and is no plainer
+        Counts {
+            sensors: draft.sensors.len() as u8,
+            actors: draft.actors.len() as u8,
+            actuators: draft.actuators,
+            channels: draft.channels.len() as u8,
+        }
     }
 }
 
@@ -33,11 +36,11 @@ fn fit(size: usize, room: usize) -> Result<usize, Fault>
     Ok(size)
 }
 
-fn write_image(draft: &Draft, counts: Counts, buffer: &mut [u8])
-    requires counted { counts ≡ counts_of (plan_of draft.now) }
-    requires room { length (image (plan_of draft.now)) ≤ length buffer.old }
+fn write_image(draft: &Draft, buffer: &mut [u8])
+    requires { length (image (plan_of draft.now)) ≤ length buffer.old }
     ensures { buffer.new ≡ put buffer.old 0 (image (plan_of draft.now)) }
 {
+    let counts = Counts::from(draft);
     put_bytes(buffer, 0, &MARK);
     put_bytes(buffer, MARK.len(), &counts.spell());
     write_all(buffer, HEAD, draft.sensors.as_slice());
@@ -50,8 +53,7 @@ pub fn emit(draft: &Draft, buffer: &mut [u8]) -> Result<usize, Fault>
     ensures answer { result ≡ answer (plan_of draft.now) buffer.old }
     ensures after { buffer.new ≡ written (plan_of draft.now) buffer.old }
 {
-    let counts = counts_of(draft);
-    let size = fit(counts.size(), buffer.len())?;
-    write_image(draft, counts, buffer);
+    let size = fit(Counts::from(draft).size(), buffer.len())?;
+    write_image(draft, buffer);
     Ok(size)
 }

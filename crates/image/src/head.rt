@@ -1,10 +1,12 @@
 // The front of an image: the mark LIN, the version, the counts, and the length that these ask for.
-ghost use Rattle.std.specs.Prelude.{◌≡◌, ◌≤◌, length, IfOk, OnOk};
+ghost use Rattle.std.specs.Prelude.{◌≡◌, ◌==◌, ◌||◌, ◌≤◌, length, position, not, nat_lt, IfOk, OnOk};
+ghost use Rattle.std.specs.List.{zip};
 ghost use Rattle.fault.specs.declared.BytesCause.TheVariants.{Head, Count, Length};
 ghost use Rattle.fault.specs.declared.Fault;
 ghost use Rattle.image.specs.Drafts.{counts_at};
+ghost use Rattle.image.specs.Encoding.{mark};
 ghost use Rattle.image.specs.Reading.{Checked};
-ghost use Rattle.image.specs.Refusals.{Unmarked, Uncounted, Unfit};
+ghost use Rattle.image.specs.Refusals.{mosts, Unmarked, Uncounted, Unfit};
 
 use crate::counts::{Counts, HEAD};
 use crate::draft::{MOST_ACTORS, MOST_ACTUATORS, MOST_CHANNELS, MOST_SENSORS};
@@ -13,7 +15,7 @@ use fault::{BytesCause, Fault};
 // Mark and version.
 pub(crate) const MARK: [u8; 5] = [b'L', b'I', b'N', 1, 0];
 
-// The greatest counts of sensors, actors, actuators and channels.
+// The greatest counts of sensors, actors, actuators and channels; `as`, since a constant calls no `try_from`.
 const MOST: [u8; 4] = [
     MOST_SENSORS as u8,
     MOST_ACTORS as u8,
@@ -21,19 +23,35 @@ const MOST: [u8; 4] = [
     MOST_CHANNELS as u8,
 ];
 
+// The first place of the mark at which the bytes differ from it.
+fn first_difference(bytes: &[u8]) -> Option<usize>
+    ensures { result ≡ position (λ p. not (p.0 == p.1)) (zip bytes.now mark) }
+{
+    bytes
+        .iter()
+        .zip(&MARK)
+        .position(|(byte, mark)| byte != mark)
+}
+
 pub(crate) fn check_head(bytes: &[u8]) -> Result<(), Fault>
     ensures checked { Checked (λ k. Fault.Bytes Head k) (Unmarked bytes.now) result }
     ensures long { OnOk result (9 ≤ length bytes.now) }
 {
-    for at in 0..MARK.len() {
-        if at == bytes.len() || bytes[at] != MARK[at] {
-            return Err(Fault::Bytes(BytesCause::Head, at as u64));
-        }
+    match first_difference(bytes) {
+        Some(at) => Err(Fault::Bytes(BytesCause::Head, at as u64)),
+        None if bytes.len() < HEAD => Err(Fault::Bytes(BytesCause::Head, bytes.len() as u64)),
+        None => Ok(()),
     }
-    if bytes.len() < HEAD {
-        return Err(Fault::Bytes(BytesCause::Head, bytes.len() as u64));
-    }
-    Ok(())
+}
+
+// Which of the counts is the first out of its range.
+fn first_bad_count(counts: &[u8]) -> Option<usize>
+    ensures { result ≡ position (λ p. p.0 == 0 || nat_lt p.1 p.0) (zip counts.now mosts) }
+{
+    counts
+        .iter()
+        .zip(&MOST)
+        .position(|(count, most)| *count == 0 || count > most)
 }
 
 pub(crate) fn check_counts(bytes: &[u8]) -> Result<Counts, Fault>
@@ -41,18 +59,15 @@ pub(crate) fn check_counts(bytes: &[u8]) -> Result<Counts, Fault>
     ensures checked { Checked (λ k. Fault.Bytes Count k) (Uncounted bytes.now) result }
     ensures counts { IfOk result (λ n. n ≡ counts_at bytes.now) }
 {
-    for i in 0..MOST.len() {
-        let at = MARK.len() + i;
-        if bytes[at] == 0 || bytes[at] > MOST[i] {
-            return Err(Fault::Bytes(BytesCause::Count, at as u64));
-        }
+    match first_bad_count(&bytes[MARK.len()..HEAD]) {
+        Some(i) => Err(Fault::Bytes(BytesCause::Count, (MARK.len() + i) as u64)),
+        None => Ok(Counts {
+            sensors: bytes[5],
+            actors: bytes[6],
+            actuators: bytes[7],
+            channels: bytes[8],
+        }),
     }
-    Ok(Counts {
-        sensors: bytes[5],
-        actors: bytes[6],
-        actuators: bytes[7],
-        channels: bytes[8],
-    })
 }
 
 pub(crate) fn check_length(bytes: &[u8], counts: Counts) -> Result<(), Fault>

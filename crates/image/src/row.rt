@@ -1,76 +1,53 @@
-// Records of one width, one after another: the same reading and writing for every sort of record.
-ghost use Rattle.std.specs.Prelude.{◌≡◌, ℕ, ◌+◌, ◌*◌, ◌≤◌, List, length};
+// Records of one width: the same reading and writing for every sort of record.
+ghost use Rattle.std.specs.Prelude.{◌≡◌, ℕ, ◌+◌, ◌*◌, ◌<◌, ◌≤◌, List, length};
 ghost use Rattle.std.specs.List.{flat_map};
 ghost use Rattle.image.specs.Bytes.{put};
-ghost use Rattle.image.specs.Drafts.{counts_at};
-ghost use Rattle.image.specs.Reading.{ReadOne, ReadAll};
+ghost use Rattle.image.specs.Reading.{Judged};
 ghost use Rattle.image.specs.declared.counts.Counts.{Counts};
 
 use crate::counts::Counts;
-use bounded::Bounded;
+
+// The lowest field of a record that is out of range, by its offset in the record.
+#[derive(Clone, Copy, PartialEq, Eq, Debug)]
+pub(crate) struct FieldError {
+    pub offset: usize,
+}
 
 pub(crate) trait Row: Copy {
     // its bytes
     ghost spelt: { Self → List ℕ };
 
-    ghost wide: { ℕ };
+    ghost WIDTH: { ℕ };
 
     // its fields are in range in an image with these counts
     ghost fine: { Counts → Self → Type 0 };
 
-    // of the record that begins at b, the field at b + j is out of range
-    ghost bad: { List ℕ → ℕ → ℕ → Type 0 };
+    // in an image with these counts, the field at an offset of the record of these bytes is out of range
+    ghost bad: { Counts → List ℕ → ℕ → Type 0 };
 
-    fn width() -> usize
-        ensures { result ≡ wide };
+    // How many bytes it has.
+    const WIDTH: usize;
 
     fn write(self, bytes: &mut [u8], at: usize)
-        requires { at + wide ≤ length bytes.old }
+        requires { at + WIDTH ≤ length bytes.old }
         ensures { bytes.new ≡ put bytes.old at (spelt self) };
 
-    // The record at `at`, or the offset in it of the lowest field out of range.
-    fn read(bytes: &[u8], at: usize, counts: Counts) -> Result<Self, usize>
-        requires room { at + wide ≤ length bytes.now }
-        requires counted { counts ≡ counts_at bytes.now }
-        ensures { ReadOne spelt wide (fine counts) bad bytes.now at result };
+    // The record of these bytes.
+    fn read(bytes: &[u8], counts: Counts) -> Result<Self, FieldError>
+        requires { length bytes.now ≡ WIDTH }
+        ensures { Judged spelt (fine counts) (bad counts bytes.now) bytes.now WIDTH result };
 
-    ghost even: { (x : Self) → length (spelt x) ≡ wide };
+    ghost even: { (x : Self) → length (spelt x) ≡ WIDTH };
+
+    ghost some: { 0 < WIDTH };
 }
 
+// Writes the records one behind the other, the first at `at`.
 pub(crate) fn write_all<R: Row>(bytes: &mut [u8], at: usize, rows: &[R])
-    requires { at + R.wide * length rows.now ≤ length bytes.old }
+    requires { at + R.WIDTH * length rows.now ≤ length bytes.old }
     ensures { bytes.new ≡ put bytes.old at (flat_map R.spelt rows.now) }
 {
-    let mut to = at;
-    for i in 0..rows.len() {
-        rows[i].write(bytes, to);
-        to += R::width();
+    for (i, row) in rows.iter().enumerate() {
+        row.write(bytes, at + R::WIDTH * i);
     }
-}
-
-// Reads `many` records from `at` on, or gives the place of the lowest field out of range.
-pub(crate) fn read_all<R: Row, const N: usize>(
-    bytes: &[u8],
-    at: usize,
-    many: usize,
-    counts: Counts,
-    filler: R,
-) -> Result<Bounded<R, N>, usize>
-    requires few { many ≤ N }
-    requires room { at + R.wide * many ≤ length bytes.now }
-    requires counted { counts ≡ counts_at bytes.now }
-    ensures { ReadAll R.spelt R.wide (R.fine counts) R.bad bytes.now at many result }
-{
-    let mut rows = Bounded::new(filler);
-    let mut from = at;
-    for i in 0..many {
-        match R::read(bytes, from, counts) {
-            Ok(row) => {
-                let _ = rows.push(row);
-            }
-            Err(offset) => return Err(from + offset),
-        }
-        from += R::width();
-    }
-    Ok(rows)
 }

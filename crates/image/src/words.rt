@@ -1,4 +1,4 @@
-// Numbers in bytes, low byte first.
+// Numbers in bytes, low byte first. One function for each type: a trait over the two types would be no plainer.
 ghost use Rattle.std.specs.Prelude.{◌≡◌, ◌+◌, ◌≤◌, length};
 ghost use Rattle.std.specs.Int.{w32};
 ghost use Rattle.std.proofs.Common.{of_z};

@@ -4,3 +4,4 @@ pub mod Paths
 pub mod Rules
 pub mod Times
 pub mod Names
+pub mod Numbers

@@ -2,4 +2,7 @@
 #![tactic(auto)]
 
 mod names;
+mod numbers;
 pub mod parts;
+
+pub use numbers::UnknownKind;

@@ -1,7 +1,8 @@
-ghost use Rattle.std.specs.Prelude.{◌≡◌};
+ghost use Rattle.std.specs.Prelude.{◌≡◌, Some};
 ghost use Rattle.line.specs.Names.{kind_name};
 
-use super::parts::Kind;
+use crate::parts::Kind;
+use std::fmt;
 
 impl Kind {
     // The kind's name in reports.
@@ -17,5 +18,13 @@ impl Kind {
             Kind::Sort => "sort",
             Kind::Other => "other",
         }
+    }
+}
+
+impl fmt::Display for Kind {
+    ghost output = { λ kind. Some (kind_name kind) };
+
+    fn fmt<W: fmt::Write>(&self, f: &mut fmt::Formatter<W>) -> fmt::Result {
+        f.write_str(self.name())
     }
 }

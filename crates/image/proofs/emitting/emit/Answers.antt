@@ -11,7 +11,7 @@ use Rattle.image.proofs.emitting.emit.Goals as goal
 pub returns-in_err-size : goal.returns-in_err-size
 returns-in_err-size c =
     let image-of = image (plan_of c.args.draft.now) in
-    let n = asked (plan_of c.args.draft.now) _ c.counts_of-counts.ensures c.size.ensures in
+    let n = asked (plan_of c.args.draft.now) _ c.from.ensures c.size.ensures in
     let p = err_from_is_err_and c.from_residual.result c.from_residual.ensures.1 in
     let refused = c.in_err-size.ensures in
     let short : length c.args.buffer.now < length image-of = omega (arith, n, refused.1) in
@@ -23,13 +23,13 @@ returns-in_err-size c =
 
 pub write_image-requires : goal.write_image-requires
 write_image-requires c =
-    let n = asked (plan_of c.args.draft.now) _ c.counts_of-counts.ensures c.size.ensures in
-    record { counted = c.counts_of-counts.ensures; room = omega (arith, n, c.in_ok-size.ensures.1) }
+    let n = asked (plan_of c.args.draft.now) _ c.from.ensures c.size.ensures in
+    omega (arith, n, c.in_ok-size.ensures.1)
 
 pub returns : goal.returns
 returns c =
     let image-of = image (plan_of c.args.draft.now) in
-    let n = asked (plan_of c.args.draft.now) _ c.counts_of-counts.ensures c.size.ensures in
+    let n = asked (plan_of c.args.draft.now) _ c.from.ensures c.size.ensures in
     let fitted = c.in_ok-size.ensures in
     let room : length image-of ≤ length c.args.buffer.now = omega (arith, n, fitted.1) in
     let yes-room = le-leb (length image-of) (length c.args.buffer.now) room in

@@ -16,12 +16,12 @@ write_all-requires-2 c =
       image-length (plan_of c.args.draft.now),
       ap length c.as_slice-2.ensures,
       ap
-          (λ n. n.sensors) c.requires.counted,
+          (λ n. n.sensors) c.from-counts.ensures,
     )
 
 pub write_all-requires-3 : goal.write_all-requires-3
 write_all-requires-3 c =
-    let same = c.requires.counted in
+    let same = c.from-counts.ensures in
     omega (
       arith,
       image-length (plan_of c.args.draft.now),
@@ -33,7 +33,7 @@ write_all-requires-3 c =
 
 pub returns : goal.returns
 returns c =
-    let same = c.requires.counted in
+    let same = c.from-counts.ensures in
     let d = c.args.buffer.now in
     put-image (plan_of c.args.draft.now) d c.actors_at.result c.channels_at.result
     (c.actors_at.ensures ∙ ap (λ n. 9 + 4 * n.sensors) same)

@@ -1,8 +1,8 @@
 use Rattle.std.proofs.Common.{arith}
 use Rattle.std.proofs.lemmas.Result.{err_from_is_err_and}
 use Rattle.image.proofs.Front.{fronted}
-use Rattle.image.proofs.Order.{first_head, first_count, first-length, first_field}
-use Rattle.image.proofs.parsing.parse.Goals as goal
+use Rattle.image.proofs.Order.{first_head, first_count, first-length}
+use Rattle.image.proofs.parsing.Image.new.Goals as goal
 
 pub returns-in_err-check_head : goal.returns-in_err-check_head
 returns-in_err-check_head c =
@@ -16,8 +16,7 @@ returns-in_err-counts c =
     let p = err_from_is_err_and r.result r.ensures.1 in
     let low = c.in_err-counts.ensures.checked in
     rw (p.1, p.2, low.1) (
-      first_count c.args.bytes.now low.0
-          c.in_ok-check_head.ensures.checked low.2,
+      first_count c.args.bytes.now low.0 c.in_ok-check_head.ensures.checked low.2,
       omega arith,
     )
 
@@ -32,16 +31,8 @@ returns-in_err-check_length c =
       omega arith,
     )
 
-pub read_records-requires : goal.read_records-requires
-read_records-requires c =
-    fronted c.args.bytes.now c.in_ok-check_head.ensures.long _
-    c.in_ok-counts.ensures.counts
-    c.in_ok-check_head.ensures.checked c.in_ok-counts.ensures.checked
-    c.in_ok-check_length.ensures
-
-pub returns-in-Err : goal.returns-in-Err
-returns-in-Err c = (
-  first_field c.args.bytes.now c.in-Err.place c.in_ok-check_head.ensures.checked
-      c.in_ok-counts.ensures.checked c.in_ok-check_length.ensures c.in-Err.ensures,
-  omega arith,
-)
+pub invariant_of-result : goal.invariant_of-result
+invariant_of-result c = record {
+  front = fronted c.args.bytes.now c.in_ok-check_head.ensures.long _ c.in_ok-counts.ensures.counts
+      c.in_ok-check_head.ensures.checked c.in_ok-counts.ensures.checked c.in_ok-check_length.ensures;
+}
