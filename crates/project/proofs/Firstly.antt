@@ -1,11 +1,10 @@
 -- The first flaw of a plan, from checks made in the order of their refusals.
-use Rattle.std.proofs.Common.{◌≡◌, ℕ, ◌+◌, ◌<◌, ◌⊎◌, sym, refl, ap, ◌∙◌, subst, inl, inr, ⊎_elim, arith}
+use Rattle.std.proofs.Common.{ℕ, ◌+◌, ◌<◌, refl, inl, inr, ⊎_elim, arith}
 use Rattle.fault.specs.declared.RecordsCause.TheVariants.{Field, Order, Sink}
 use Rattle.fault.specs.declared.GraphCause.TheVariants.{Unwired, CutOff, ZeroLoop}
 use Rattle.fault.specs.declared.Fault.{Fault}
-use Rattle.fault.specs.declared.Fault
 use Rattle.line.specs.Plan.{Plan}
-use Rattle.line.specs.Rules.{Misplaced, Doubled, Idle, Unfed, Severed, Instant, Lawful, Sized, Ranged}
+use Rattle.line.specs.Rules.{Misplaced, Doubled, Severed, Instant, Lawful, Sized, Ranged}
 use Rattle.image.specs.Refusals.{Earlier, Loose, Flaw}
 use Rattle.project.specs.Flawed.{FirstFlaw}
 

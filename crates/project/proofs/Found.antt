@@ -1,14 +1,13 @@
 -- Flaws of channels, as tests that the code makes.
-use Rattle.std.proofs.Common.{◌≡◌, ℕ, ◌+◌, ◌<◌, ◌≤◌, Bool, true, false, not, ◌⊎◌, List, [], ◌∷◌, length, get_or, take, is_some, Some, None, Decides, Option, sym, refl, ap, ◌∙◌, subst, inl, inr, ⊎_elim, arith}
+use Rattle.std.proofs.Common.{◌≡◌, ℕ, ◌<◌, Bool, true, false, not, List, length, get_or, take, is_some, Some, None, Decides, Option, sym, refl, ap, ◌∙◌, subst, inl, ⊎_elim, arith}
 use Rattle.std.proofs.lemmas.List.{get_or-take, length-take-le}
 use Rattle.std.proofs.lemmas.Bool.{false≢true}
-use Rattle.line.specs.Lists.{In}
 use Rattle.line.specs.Plan.{Plan, end_of, start_of, same_sink}
 use Rattle.line.specs.Rules.{Doubled, Idle, Unfed, channel_of, no_channel}
 use Rattle.line.specs.declared.parts.Source.{Source}
-use Rattle.line.specs.declared.parts.Source.TheVariants.{Sensor, Outlet}
+use Rattle.line.specs.declared.parts.Source.TheVariants.{Sensor}
 use Rattle.line.specs.declared.parts.Sink.{Sink}
-use Rattle.line.specs.declared.parts.Sink.TheVariants.{Inlet, Actuator}
+use Rattle.line.specs.declared.parts.Sink.TheVariants.{Actuator}
 use Rattle.line.specs.declared.parts.Channel.{Channel}
 use Rattle.paths.specs.Paths.{at}
 use Rattle.project.specs.Search.{Lowest}

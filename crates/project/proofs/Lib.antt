@@ -1,6 +1,7 @@
 pub mod Firsts
 pub mod Wired
 pub mod Nths
+pub mod Precedence
 pub mod Found
 pub mod Closing
 pub mod Edges

@@ -1,5 +1,5 @@
 -- What channels ask of actors, as the code computes it.
-use Rattle.std.proofs.Common.{◌≡◌, ℕ, ◌+◌, ◌^◌, ◌<◌, ◌≤◌, Bool, true, false, cond, eqb, ◌⊎◌, List, [], ◌∷◌, ◌++◌, ℤ, pos, ◌-ℤ◌, ◌≤ℤ◌, Some, None, Option, sym, refl, ap, ◌∙◌, subst, inl, inr, ⊎_elim, arith, w64, SFits, to_z, of_z}
+use Rattle.std.proofs.Common.{◌≡◌, ℕ, ◌^◌, ◌<◌, false, cond, eqb, ◌⊎◌, List, [], ◌∷◌, ◌++◌, ℤ, pos, ◌-ℤ◌, ◌≤ℤ◌, Some, None, Option, sym, refl, ap, ◌∙◌, subst, inl, inr, ⊎_elim, arith, w64, SFits, to_z, of_z}
 use lib.Signed.{lt_z, ≤ℤ_refl}
 use Rattle.std.proofs.lemmas.Int.{ints, clamps, to_z-of_z}
 use Rattle.std.specs.Int.{int_max}
@@ -7,14 +7,14 @@ use Rattle.std.proofs.lemmas.Bool.{ne_eqb, cases_cond}
 use Rattle.std.specs.Option.{option_map}
 use Rattle.line.specs.Plan.{Plan, lateness}
 use Rattle.line.specs.declared.parts.Source.{Source}
-use Rattle.line.specs.declared.parts.Source.TheVariants.{Sensor, Outlet}
+use Rattle.line.specs.declared.parts.Source.TheVariants.{Sensor}
 use Rattle.line.specs.declared.parts.Sink.{Sink}
-use Rattle.line.specs.declared.parts.Sink.TheVariants.{Inlet, Actuator}
+use Rattle.line.specs.declared.parts.Sink.TheVariants.{Inlet}
 use Rattle.paths.specs.Least.{length_at}
 use Rattle.paths.specs.declared.span.Span.{Span}
 use Rattle.project.specs.Tables.{places}
 use Rattle.line.specs.declared.parts.Channel.{Channel}
-use Rattle.project.specs.Waits.{slack_of, gap, later, Asks, Greatest}
+use Rattle.project.specs.Waits.{slack_of, later, Asks, Greatest}
 use Rattle.project.proofs.Wired.{none≢some}
 use Rattle.project.proofs.Edges.{in-front, in_end, in-last}
 

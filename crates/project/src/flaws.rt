@@ -16,33 +16,7 @@ use paths::Span;
 fn precedes(a: Source, b: Source) -> bool
     ensures { Decides result (weight a < weight b) }
 {
-    match (a, b) {
-        (Source::Sensor(m), Source::Sensor(n)) => m < n,
-        (
-            Source::Sensor(_),
-            Source::Outlet {
-                actor: _,
-                outlet: _,
-            },
-        ) => true,
-        (
-            Source::Outlet {
-                actor: _,
-                outlet: _,
-            },
-            Source::Sensor(_),
-        ) => false,
-        (
-            Source::Outlet {
-                actor: m,
-                outlet: o,
-            },
-            Source::Outlet {
-                actor: n,
-                outlet: p,
-            },
-        ) => m < n || (m == n && o < p),
-    }
+    a < b
 }
 
 // A channel that does not stand above the one before it.

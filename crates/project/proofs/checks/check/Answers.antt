@@ -1,7 +1,5 @@
-use Rattle.std.proofs.Common.{◌≡◌, sym, subst}
 use Rattle.image.specs.Drafts.{plan_of}
 use Rattle.std.proofs.lemmas.Result.{err_from_is_err_and}
-use Rattle.project.specs.Flawed.{FirstFlaw}
 use Rattle.project.proofs.Firstly.{first-order, first-sink, first-loose, first-severed, first-instant, lawful}
 use Rattle.project.proofs.checks.check.Goals as goal
 

@@ -1,4 +1,4 @@
-use Rattle.std.proofs.Common.{◌≡◌, refl, arith}
+use Rattle.std.proofs.Common.{refl, arith}
 use Rattle.image.specs.Drafts.{plan_of}
 use Rattle.project.proofs.Delays.{severed-is}
 use Rattle.project.proofs.checks.check_reach.Goals as goal

@@ -1,4 +1,4 @@
-use Rattle.std.proofs.Common.{◌≡◌, ◌+◌, ◌⊎◌, refl, inl, inr, ⊎_elim, arith, rules}
+use Rattle.std.proofs.Common.{◌+◌, refl, inl, inr, ⊎_elim, arith}
 use Rattle.project.proofs.checks.check_wired.Goals as goal
 
 pub returns-in-Some : goal.returns-in-Some

@@ -1,4 +1,4 @@
-use Rattle.std.proofs.Common.{◌≡◌, sym, ap, ◌∙◌}
+use Rattle.std.proofs.Common.{ap}
 use Rattle.line.specs.Plan.{nobody}
 use Rattle.project.proofs.Nths.{slice_get-some, slice_get-none}
 use Rattle.project.proofs.tables.delay_at.Goals as goal

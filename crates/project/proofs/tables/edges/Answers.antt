@@ -1,8 +1,8 @@
-use Rattle.std.proofs.Common.{◌≡◌, ◌+◌, ◌<◌, List, length, take, replicate, sym, ap, ◌∙◌, subst, arith}
+use Rattle.std.proofs.Common.{List, take, replicate, sym, ◌∙◌, subst}
 use Rattle.image.specs.Drafts.{plan_of}
 use Rattle.std.proofs.lemmas.List.{take_more, take_all}
 use Rattle.line.specs.Lists.{In}
-use Rattle.line.specs.Rules.{no_channel, Proper}
+use Rattle.line.specs.Rules.{no_channel}
 use Rattle.line.specs.declared.parts.Channel.{Channel}
 use Rattle.project.specs.Tables.{Laid}
 use Rattle.project.proofs.Wired.{in-at}

@@ -1,4 +1,4 @@
-use Rattle.std.proofs.Common.{◌≡◌, arith, lit≤, rules}
+use Rattle.std.proofs.Common.{lit≤, rules}
 use Rattle.image.specs.Drafts.{plan_of}
 use Rattle.project.proofs.Closing.{ok-part}
 use Rattle.project.proofs.Routes.{short, distance_is, exit-is}

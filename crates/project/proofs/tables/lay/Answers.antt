@@ -1,4 +1,4 @@
-use Rattle.std.proofs.Common.{◌≡◌, Some, sym, ap, ◌∙◌}
+use Rattle.std.proofs.Common.{Some, ap, ◌∙◌}
 use Rattle.image.specs.Drafts.{plan_of}
 use Rattle.project.proofs.Edges.{lay-outlet, lay-sensor}
 use Rattle.project.proofs.tables.lay.Goals as goal

@@ -1,4 +1,4 @@
-use Rattle.std.proofs.Common.{◌≡◌, false, sym, arith}
+use Rattle.std.proofs.Common.{false, sym, arith}
 use Rattle.std.proofs.lemmas.List.{get_or_past}
 use Rattle.project.proofs.tables.leads.Goals as goal
 

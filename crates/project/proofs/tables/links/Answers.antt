@@ -1,4 +1,4 @@
-use Rattle.std.proofs.Common.{◌≡◌, ℕ, ◌<◌, false, ◌≢◌, length, get_or, set, is_some, sym, ap, ◌∙◌, arith, length-set, below_more}
+use Rattle.std.proofs.Common.{◌≡◌, ◌<◌, false, ◌≢◌, length, get_or, set, is_some, ap, ◌∙◌, arith, length-set, below_more}
 use Rattle.std.proofs.lemmas.List.{get_or-set_same, get_or-set_other, get_or_default}
 use Rattle.paths.specs.Spans.{length_of, no_span}
 use Rattle.project.proofs.tables.links.Goals as goal

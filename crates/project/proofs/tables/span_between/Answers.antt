@@ -1,4 +1,4 @@
-use Rattle.std.proofs.Common.{◌≡◌, sym, ap, arith}
+use Rattle.std.proofs.Common.{sym, ap, arith}
 use Rattle.paths.specs.Spans.{length_of, no_span}
 use Rattle.std.proofs.lemmas.List.{get_or_past}
 use Rattle.project.proofs.tables.span_between.Goals as goal

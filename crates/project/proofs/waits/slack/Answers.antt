@@ -1,4 +1,4 @@
-use Rattle.std.proofs.Common.{◌≡◌, ◌^◌, ◌<◌, sym, ap, ◌∙◌, subst, arith, rules}
+use Rattle.std.proofs.Common.{◌^◌, ◌<◌, sym, subst, arith, rules}
 use Rattle.image.specs.Drafts.{plan_of}
 use Rattle.line.specs.Rules.{Ends}
 use Rattle.project.proofs.Slacks.{sub-fits, slack-on}

@@ -1,4 +1,4 @@
-use Rattle.std.proofs.Common.{◌≡◌, List, take, sym, ap, ◌∙◌, subst}
+use Rattle.std.proofs.Common.{List, take, sym, ◌∙◌, subst}
 use Rattle.image.specs.Drafts.{plan_of}
 use Rattle.std.proofs.lemmas.List.{take_more, take_all}
 use Rattle.line.specs.Lists.{In}

@@ -1,4 +1,4 @@
-use Rattle.std.proofs.Common.{◌≡◌, ℕ, ◌<◌, ◌≢◌, length, get_or, set, ℤ, pos, sym, ap, ◌∙◌, subst, arith, length-set, w64, SFits, to_z, of_z, rules, below_more}
+use Rattle.std.proofs.Common.{◌<◌, ◌≢◌, length, get_or, set, pos, ◌∙◌, arith, length-set, w64, SFits, to_z, of_z, below_more}
 use Rattle.std.proofs.lemmas.List.{get_or-set_same, get_or-set_other}
 use Rattle.std.proofs.lemmas.Int.{to_z-of_z}
 use Rattle.image.specs.Drafts.{plan_of}

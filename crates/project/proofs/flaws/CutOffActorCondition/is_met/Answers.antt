@@ -1,4 +1,4 @@
-use Rattle.std.proofs.Common.{◌≡◌, sym, ◌∙◌, arith, rules}
+use Rattle.std.proofs.Common.{arith, rules}
 use Rattle.image.specs.Drafts.{plan_of}
 use Rattle.project.proofs.Found.{severed-by}
 use Rattle.project.proofs.flaws.CutOffActorCondition.is_met.Goals as goal

@@ -1,4 +1,4 @@
-use Rattle.std.proofs.Common.{◌≡◌, replicate}
+use Rattle.std.proofs.Common.{replicate}
 use Rattle.std.proofs.lemmas.Bool.{ne_eqb}
 use Rattle.project.proofs.Sizes.{same-image, other-image}
 use Rattle.project.proofs.project.Project.same_line.Goals as goal

@@ -1,4 +1,4 @@
-use Rattle.std.proofs.Common.{◌≡◌, ℕ, replicate, arith}
+use Rattle.std.proofs.Common.{ℕ, replicate}
 use Rattle.std.proofs.lemmas.List.{length-replicate}
 use Rattle.project.proofs.Sizes.{has_room}
 use Rattle.project.proofs.project.Project.spelled.Goals as goal
