@@ -175,3 +175,7 @@ blank s k e b a hb ha =
     (λ lt. ap length_of (get_or-replicate k (b * 33 + a) s no_span lt) ∙ e)
     (λ ge. ap length_of (get_or_past (replicate k s) (b * 33 + a) no_span (omega (arith, length-replicate k s))))
     (cases_lt (b * 33 + a) k)
+
+-- past the rows of the table there is no edge
+pub beyond : (t : List Span) (b a : ℕ) → length t ≡ 1089 → places ≤ b → length_at places t b a ≡ None
+beyond t b a long past = ap length_of (get_or_past t (b * 33 + a) no_span (omega (arith, long, past)))

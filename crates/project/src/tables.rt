@@ -31,10 +31,7 @@ fn place_of(sink: Sink) -> usize
 pub fn delay_at(draft: &Draft, actor: usize, _outlet: usize) -> u32
     ensures { result ≡ delay (plan_of draft.now) actor _outlet }
 {
-    match draft.actors.get(actor) {
-        Some(found) => found.delay,
-        None => 0,
-    }
+    draft.actors.get(actor).map_or(0, |found| found.delay)
 }
 
 // Lays the edge of one channel into the table, beside those that are there.
@@ -79,11 +76,7 @@ pub fn far(draft: &Draft) -> [Span; 1089]
 fn links(edges: &[Span; 1089]) -> [bool; 1089]
     ensures { (k : ℕ) → k < 1089 → slice_index_or result k false ≡ is_some (length_of (slice_index_or edges.now k no_span)) }
 {
-    let mut table = [false; 1089];
-    for k in 0..1089 {
-        table[k] = edges[k].length().is_some();
-    }
-    table
+    edges.map(|span| span.length().is_some())
 }
 
 // Which actors reach which, and which reach an actuator.

@@ -1,4 +1,7 @@
-use Rattle.std.proofs.Common.{lit≤, rules}
+use Rattle.std.proofs.Common.{◌≡◌, length, sym, ◌∙◌, ⊎_elim, lit≤, rules}
+use Rattle.project.proofs.Wired.{none≢some}
+use Rattle.project.proofs.Edges.{beyond}
+use Rattle.std.proofs.lemmas.Bool.{cases_lt}
 use Rattle.image.specs.Drafts.{plan_of}
 use Rattle.project.proofs.Closing.{ok-part}
 use Rattle.project.proofs.Routes.{short, distance_is, exit-is}
@@ -13,5 +16,5 @@ returns c =
     record {
       distances = distance_is p c.requires.few c.requires.ranged t l _ D;
       exits = exit-is p c.requires.few c.requires.ranged t l _ D;
-      small = λ b a d hb ha e. D.small (lit≤ tt) (short p c.requires.few c.requires.ranged t l) b a d hb ha e;
+      small = λ b a d ha e. ⊎_elim (λ hb. D.small (lit≤ tt) (short p c.requires.few c.requires.ranged t l) b a d hb ha e) (λ past. let long : length c.distances.new.table ≡ 1089 = search rules in absurd (none≢some (sym (beyond c.distances.new.table b a long past) ∙ e))) (cases_lt b 33);
     }
