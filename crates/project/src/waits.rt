@@ -49,7 +49,10 @@ fn wait_of(draft: &Draft, far: &[Span; 1089], actor: u8) -> Option<i64>
     ensures { Greatest (Asks (plan_of draft.now) far.now actor (plan_of draft.now).channels) result }
 {
     let channels = draft.channels.as_slice();
-    channels.iter().filter_map(|c| slack(draft, far, actor, *c)).max()
+    channels
+        .iter()
+        .filter_map(|c| slack(draft, far, actor, *c))
+        .max()
 }
 
 // The waits of all actors, by number; 0 where no sensor comes to one.
