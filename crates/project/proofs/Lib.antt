@@ -12,4 +12,4 @@ pub mod Firstly
 pub mod Sounds
 pub mod Reading
 pub mod Freshly
-pub mod Sizes
+pub mod Alike

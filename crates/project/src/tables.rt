@@ -1,5 +1,6 @@
 // Tables between 33 places, row by row: the 32 actors, and one place for all actuators.
-ghost use Rattle.std.specs.Prelude.{◌≡◌, ℕ, ◌<◌, ◌≤◌, false, length, is_some, slice_index_or};
+ghost use Rattle.std.specs.Prelude.{◌≡◌, ℕ, ◌+◌, ◌*◌, ◌<◌, ◌≤◌, false, length, is_some, slice_index_or};
+ghost use Rattle.std.specs.List.{slice_get};
 ghost use Rattle.image.specs.Drafts.{plan_of};
 ghost use Rattle.line.specs.Rules.{Proper, Ranged, Sized};
 ghost use Rattle.line.specs.Plan.{delay};
@@ -15,8 +16,6 @@ use paths::{Span, Weight, distances, reaches};
 pub const PLACES: usize = 33;
 
 pub const EXIT: u8 = 32;
-
-pub const CELLS: usize = 1089;
 
 fn place_of(sink: Sink) -> usize
     ensures { result ≡ place_of sink }
@@ -90,24 +89,23 @@ pub fn reach(draft: &Draft) -> [bool; 1089]
     table
 }
 
+// The cell of the table from b to a, if it has one.
+fn cell<T: Copy>(table: &[T], b: u8, a: u8) -> Option<T>
+    ensures { result ≡ slice_get table.now (b * places + a) }
+{
+    table.get(b as usize * PLACES + a as usize).copied()
+}
+
 // Whether the table leads from b to a.
 pub fn leads(table: &[bool; 1089], b: u8, a: u8) -> bool
     ensures { result ≡ at false places table.now b a }
 {
-    let k = b as usize * PLACES + a as usize;
-    if k >= CELLS {
-        return false;
-    }
-    table[k]
+    cell(table, b, a).unwrap_or(false)
 }
 
 // The length from b to a, if the table has one.
 pub fn span_between(table: &[Span; 1089], b: u8, a: u8) -> Option<u64>
     ensures { result ≡ length_at places table.now b a }
 {
-    let k = b as usize * PLACES + a as usize;
-    if k >= CELLS {
-        return None;
-    }
-    table[k].length()
+    cell(table, b, a)?.length()
 }
