@@ -4,6 +4,7 @@ pub mod Nths
 pub mod Precedence
 pub mod Found
 pub mod Closing
+pub mod Few
 pub mod Edges
 pub mod Routes
 pub mod Slacks

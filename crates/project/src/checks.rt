@@ -72,7 +72,6 @@ fn check_actuators(draft: &Draft) -> Result<(), Fault>
 }
 
 fn check_reach(draft: &Draft) -> Result<(), Fault>
-    requires few { length (plan_of draft.now).actors ≤ 32 }
     requires ranged { Ranged (plan_of draft.now) }
     ensures { Cleared (Severed (plan_of draft.now)) (OfGraph CutOff) result }
 {
@@ -85,7 +84,6 @@ fn check_reach(draft: &Draft) -> Result<(), Fault>
 }
 
 fn check_loops(draft: &Draft, far: &[Span; 1089]) -> Result<(), Fault>
-    requires few { length (plan_of draft.now).actors ≤ 32 }
     requires ranged { Ranged (plan_of draft.now) }
     requires far { Far (plan_of draft.now) far.now }
     ensures { Cleared (Instant (plan_of draft.now)) (OfGraph ZeroLoop) result }

@@ -35,7 +35,6 @@ pub fn delay_at(draft: &Draft, actor: usize, _outlet: usize) -> u32
 
 // Lays the edge of one channel into the table, beside those that are there.
 fn lay(table: &mut [Span; 1089], draft: &Draft, channel: Channel)
-    requires few { length (plan_of draft.now).actors ≤ 32 }
     requires proper { Proper (plan_of draft.now) channel }
     ensures { Adds (plan_of draft.now) channel table.old table.new }
 {
@@ -48,7 +47,6 @@ fn lay(table: &mut [Span; 1089], draft: &Draft, channel: Channel)
 
 // The edges that the channels of a draft draw.
 fn edges(draft: &Draft) -> [Span; 1089]
-    requires few { length (plan_of draft.now).actors ≤ 32 }
     requires ranged { Ranged (plan_of draft.now) }
     ensures { Laid (plan_of draft.now) (plan_of draft.now).channels result }
 {
@@ -62,7 +60,6 @@ fn edges(draft: &Draft) -> [Span; 1089]
 
 // The least sums of delays between actors, and from actors to an actuator.
 pub fn far(draft: &Draft) -> [Span; 1089]
-    requires few { length (plan_of draft.now).actors ≤ 32 }
     requires ranged { Ranged (plan_of draft.now) }
     ensures { Far (plan_of draft.now) result }
 {
@@ -80,7 +77,6 @@ fn links(edges: &[Span; 1089]) -> [bool; 1089]
 
 // Which actors reach which, and which reach an actuator.
 pub fn reach(draft: &Draft) -> [bool; 1089]
-    requires few { length (plan_of draft.now).actors ≤ 32 }
     requires ranged { Ranged (plan_of draft.now) }
     ensures { Reach (plan_of draft.now) result }
 {

@@ -16,7 +16,7 @@ pub lay-requires : goal.lay-requires
 lay-requires c =
     let p = plan_of c.args.draft.now in
     let there = in-at c.as_slice-channels.result.now c.loop-c.c-index no_channel c.loop-c-test.true in
-    record { few = c.requires.few; proper = c.requires.ranged.channels _ (subst (In _) c.as_slice-channels.ensures there) }
+    record { proper = c.requires.ranged.channels _ (subst (In _) c.as_slice-channels.ensures there) }
 
 pub loop-c-preserved : goal.loop-c-preserved
 loop-c-preserved c =
