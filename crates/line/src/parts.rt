@@ -19,7 +19,7 @@ pub struct Actor {
 }
 
 // Where a channel begins.
-#[derive(Clone, Copy, PartialEq, Eq, Debug)]
+#[derive(Clone, Copy, PartialEq, Eq, PartialOrd, Ord, Debug)]
 pub enum Source {
     Sensor(u8),
     Outlet { actor: u8, outlet: u8 },

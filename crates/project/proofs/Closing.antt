@@ -1,5 +1,5 @@
 -- What a closed table says once the table is known to be square.
-use Rattle.std.proofs.Common.{◌≡◌, Bool, true, false, is_ok, Ok, Err, Result, sym, ◌∙◌, MatchResult}
+use Rattle.std.proofs.Common.{◌≡◌, true, is_ok, Ok, Err, Result, MatchResult}
 use Rattle.std.proofs.lemmas.Bool.{false≢true}
 
 pub ok-part : {A B : Type 0} (r : Result A B) (P Q : Type 0) → is_ok r ≡ true → MatchResult r (λ _. P) (λ _. Q) → P

@@ -1,12 +1,11 @@
 -- From the tables to the distances, deadlines and waits of a lawful plan.
-use Rattle.std.proofs.Common.{◌≡◌, ℕ, zero, suc, ◌+◌, ◌-◌, ◌<◌, ◌≤◌, Bool, true, false, cond, eqb, ◌⊎◌, List, [], ◌∷◌, length, get_or, ℤ, pos, ◌-ℤ◌, ◌≤ℤ◌, is_some, Some, None, Option, unwrap_or, sym, refl, ap, ◌∙◌, subst, inl, inr, ⊎_elim, add-one, arith}
+use Rattle.std.proofs.Common.{◌≡◌, ℕ, zero, suc, ◌+◌, ◌-◌, ◌<◌, ◌≤◌, Bool, true, false, cond, ◌⊎◌, List, length, ℤ, pos, ◌-ℤ◌, ◌≤ℤ◌, Some, None, Option, unwrap_or, sym, refl, ap, ◌∙◌, subst, inl, inr, ⊎_elim, add-one, arith}
 use Rattle.std.proofs.lemmas.Int.{ints}
-use Rattle.std.proofs.lemmas.Bool.{cases_eq, cases_lt, eq-eqb, ne_eqb, eqb-true, false≢true}
+use Rattle.std.proofs.lemmas.Bool.{cases_eq, cases_lt, eq-eqb, ne_eqb, false≢true}
 use Rattle.std.specs.Option.{option_map}
-use Rattle.line.specs.Lists.{In}
-use Rattle.line.specs.Plan.{Plan, Leads, lateness, delay}
-use Rattle.line.specs.Paths.{Path, Exit, From, Least, Distance, Deadline, Approach, Slack, Wait}
-use Rattle.line.specs.Rules.{Lawful, Ranged, Misplaced, Severed, Instant, channel_of, no_channel, weight}
+use Rattle.line.specs.Plan.{Plan, Leads, lateness}
+use Rattle.line.specs.Paths.{Path, From, Least, Approach, Wait}
+use Rattle.line.specs.Rules.{Ranged, Misplaced, Severed, Instant, channel_of, no_channel, weight}
 use Rattle.line.specs.declared.parts.Source.{Source}
 use Rattle.line.specs.declared.parts.Source.TheVariants.{Sensor, Outlet}
 use Rattle.line.specs.declared.parts.Sink.{Sink}

@@ -1,5 +1,5 @@
 -- How channels are laid into the table of edges.
-use Rattle.std.proofs.Common.{◌≡◌, ℕ, zero, suc, ◌+◌, ◌*◌, ◌^◌, ◌<◌, ◌≤◌, min, Bool, true, false, cond, ◌&&◌, eqb, ◌⊎◌, List, [], ◌∷◌, ◌++◌, length, get_or, set, replicate, Some, None, Option, sym, refl, ap, ◌∙◌, subst, inl, inr, ⊎_elim, arith, lit<}
+use Rattle.std.proofs.Common.{◌≡◌, ℕ, ◌+◌, ◌*◌, ◌<◌, ◌≤◌, min, false, cond, ◌&&◌, eqb, ◌⊎◌, List, [], ◌∷◌, ◌++◌, length, get_or, set, replicate, Some, None, Option, sym, refl, ap, ◌∙◌, subst, inl, inr, ⊎_elim, arith, lit<}
 use Rattle.std.proofs.lemmas.List.{get_or-set_same, get_or-set_other, get_or_default, get_or_past, get_or-replicate, length-replicate}
 use Rattle.std.proofs.lemmas.Bool.{cases_eq, eq-eqb, eqb-true, and_parts, false≢true, cases_Bool, cases_lt, and_from}
 use Rattle.std.proofs.lemmas.Bool.Decides.{nat_tests}
@@ -17,7 +17,7 @@ use Rattle.paths.specs.Least.{length_at}
 use Rattle.paths.specs.declared.span.Span.{Span}
 use Rattle.paths.specs.SpansLemmas.{length_some}
 use Rattle.paths.proofs.Turns.{same_place}
-use Rattle.project.specs.Tables.{places, exit, place_of, nearer, offered, Adds, Lies, Laid}
+use Rattle.project.specs.Tables.{places, place_of, nearer, offered, Adds, Lies, Laid}
 
 some-length : (s : Span) → s.micros < greatest → length_of s ≡ Some s.micros
 some-length s h = grind (arith, nat_tests)
@@ -175,3 +175,7 @@ blank s k e b a hb ha =
     (λ lt. ap length_of (get_or-replicate k (b * 33 + a) s no_span lt) ∙ e)
     (λ ge. ap length_of (get_or_past (replicate k s) (b * 33 + a) no_span (omega (arith, length-replicate k s))))
     (cases_lt (b * 33 + a) k)
+
+-- past the rows of the table there is no edge
+pub beyond : (t : List Span) (b a : ℕ) → length t ≡ 1089 → places ≤ b → length_at places t b a ≡ None
+beyond t b a long past = ap length_of (get_or_past t (b * 33 + a) no_span (omega (arith, long, past)))

@@ -1,13 +1,36 @@
 -- The first flaw of a plan, from checks made in the order of their refusals.
-use Rattle.std.proofs.Common.{◌≡◌, ℕ, ◌+◌, ◌<◌, ◌⊎◌, sym, refl, ap, ◌∙◌, subst, inl, inr, ⊎_elim, arith}
+use Rattle.std.proofs.Common.{Bool, sym, subst, length, ◌≤◌, ◌≡◌, refl, Ok, Err, Result, MatchResult, Decides, true, false, ℕ, ◌+◌, ◌<◌, refl, inl, inr, ⊎_elim, arith}
 use Rattle.fault.specs.declared.RecordsCause.TheVariants.{Field, Order, Sink}
 use Rattle.fault.specs.declared.GraphCause.TheVariants.{Unwired, CutOff, ZeroLoop}
 use Rattle.fault.specs.declared.Fault.{Fault}
-use Rattle.fault.specs.declared.Fault
 use Rattle.line.specs.Plan.{Plan}
 use Rattle.line.specs.Rules.{Misplaced, Doubled, Idle, Unfed, Severed, Instant, Lawful, Sized, Ranged}
 use Rattle.image.specs.Refusals.{Earlier, Loose, Flaw}
-use Rattle.project.specs.Flawed.{FirstFlaw}
+use Rattle.std.proofs.lemmas.Bool.{false≢true}
+use Rattle.project.specs.Flawed.{Cleared, FirstFlaw}
+
+pub told : {P : Type 0} (b c : Bool) → Decides b P → c ≡ b → Decides c P
+told {P = P} b c d e = subst (λ (x : Bool). Decides x P) (sym e) d
+
+-- the refusal of the lowest number, where the test tells P, and P holds of no number from n on
+pub cleared : (P : ℕ → Type 0) (f : ℕ → Fault) (n : ℕ) (r : Result (Unit {0}) Fault) (Yes No : ℕ → Type 0) (Made : ℕ → Fault → Type 0)
+    → MatchResult r (λ _. (k : ℕ) → k < n → No k) (λ e. (k : ℕ) × (k < n) × Made k e × Yes k × ((j : ℕ) → j < k → No j))
+    → ((k : ℕ) → P k → k < n) → ((k : ℕ) → Yes k → Decides true (P k)) → ((k : ℕ) → No k → Decides false (P k)) → ((k : ℕ) (e : Fault) → Made k e → e ≡ f k)
+    → Cleared P f r
+cleared P f n (Ok u) Yes No Made w below yes' no' made = λ k h. false≢true ((no' k (w k (below k h))).1 h)
+cleared P f n (Err e) Yes No Made w below yes' no' made = (w.0, made w.0 e w.2, (yes' w.0 w.3).0 refl, λ j lt h. false≢true ((no' j (w.4 j lt)).1 h))
+
+pub cleared-same : (P Q : ℕ → Type 0) (f : ℕ → Fault) (r : Result (Unit {0}) Fault) → ((k : ℕ) → (P k → Q k) × (Q k → P k)) → Cleared P f r → Cleared Q f r
+cleared-same P Q f (Ok u) same w = λ k h. w k ((same k).1 h)
+cleared-same P Q f (Err e) same w = (w.0, w.1, (same w.0).0 w.2, λ j lt h. w.3 j lt ((same j).1 h))
+
+-- sensors come before actuators, whose numbers follow the places of sixteen sensors
+pub idle-loose : (p : Plan) → length p.sensors ≤ 16 → (e : Fault) → Cleared (Idle p) (λ k. Fault.Graph Unwired k) (Err e) → Cleared (Loose p) (λ k. Fault.Graph Unwired k) (Err e)
+idle-loose p few e w = (w.0, w.1, inl w.2, λ j lt. ⊎_elim (λ i. w.3 j lt i) (λ u. omega (arith, u.1, lt, w.2.0, few)))
+
+pub unfed-loose : (p : Plan) (r : Result (Unit {0}) Fault) → ((k : ℕ) → Idle p k → ⊥) → Cleared (Unfed p) (λ q. Fault.Graph Unwired (16 + q)) r → Cleared (Loose p) (λ k. Fault.Graph Unwired k) r
+unfed-loose p (Ok u) none w = λ k. ⊎_elim (λ i. none k i) (λ h. w h.0 h.2)
+unfed-loose p (Err e) none w = (16 + w.0, w.1, inr (w.0, refl, w.2), λ j lt. ⊎_elim (λ i. none j i) (λ h. w.3 h.0 (omega (arith, h.1, lt)) h.2))
 
 module _ (p : Plan) where
   -- P holds of no number; P holds of k and of none below

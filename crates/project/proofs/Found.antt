@@ -1,19 +1,19 @@
 -- Flaws of channels, as tests that the code makes.
-use Rattle.std.proofs.Common.{◌≡◌, ℕ, ◌+◌, ◌<◌, ◌≤◌, Bool, true, false, not, ◌⊎◌, List, [], ◌∷◌, length, get_or, take, is_some, Some, None, Decides, Option, sym, refl, ap, ◌∙◌, subst, inl, inr, ⊎_elim, arith}
+use Rattle.std.proofs.Common.{◌≡◌, ℕ, ◌<◌, Bool, true, false, not, List, length, get_or, take, is_some, Some, None, Decides, Option, sym, refl, ap, ◌∙◌, subst, inl, ⊎_elim, arith}
 use Rattle.std.proofs.lemmas.List.{get_or-take, length-take-le}
 use Rattle.std.proofs.lemmas.Bool.{false≢true}
-use Rattle.line.specs.Lists.{In}
 use Rattle.line.specs.Plan.{Plan, end_of, start_of, same_sink}
 use Rattle.line.specs.Rules.{Doubled, Idle, Unfed, channel_of, no_channel}
 use Rattle.line.specs.declared.parts.Source.{Source}
-use Rattle.line.specs.declared.parts.Source.TheVariants.{Sensor, Outlet}
+use Rattle.line.specs.declared.parts.Source.TheVariants.{Sensor}
 use Rattle.line.specs.declared.parts.Sink.{Sink}
-use Rattle.line.specs.declared.parts.Sink.TheVariants.{Inlet, Actuator}
+use Rattle.line.specs.declared.parts.Sink.TheVariants.{Actuator}
 use Rattle.line.specs.declared.parts.Channel.{Channel}
 use Rattle.paths.specs.Paths.{at}
-use Rattle.project.specs.Search.{Lowest}
+use Rattle.std.specs.Bool.{MatchBool}
+use Rattle.std.specs.List.{HoldsAt, AllWithin}
 use Rattle.project.specs.Tables.{places, exit, Serves, SeveredBy}
-use Rattle.project.proofs.Wired.{none≢some, first_some, first-none, sink-same, sink-self, in-at, at_in, ends_there, ends_nowhere, begins-there, begins-nowhere}
+use Rattle.project.proofs.Wired.{first_some, first-none, sink-same, sink-self, in-at, at_in, ends_there, ends_nowhere, begins-there, begins-nowhere}
 
 -- an answer that is none exactly where P holds
 tells-some : {A : Type 0} (P : Type 0) (v : Option A) → ((x : A) → v ≡ Some x → P) → (v ≡ None → P → ⊥) → Decides (is_some v) P
@@ -68,23 +68,19 @@ unfed p q cs v b ec h ev eb =
     tells_none (Unfed p q) v b eb (λ e. (h, λ x m. begins-nowhere p.channels x (Actuator q) (sym same ∙ e) m))
     (λ x e w. w.1 x (begins-there p.channels x (Actuator q) (sym same ∙ e)))
 
-pub severed-by : (p : Plan) (r : List Bool) (a n : ℕ) (v : Option ℕ) (b : Bool) → a < length p.actors → at false places r a exit ≡ true → n ≡ length p.channels
-    → Lowest (λ k. (k < length p.channels) × Serves r a (channel_of p k).source (channel_of p k).sink) n v → is_some v ≡ not b → Decides b (SeveredBy p r a)
-severed-by p r a n v b ha e en low eb = tells_none (SeveredBy p r a) v b eb (quiet v low) (heard v low)
-  where
-    quiet : (v : Option ℕ) → Lowest (λ k. (k < length p.channels) × Serves r a (channel_of p k).source (channel_of p k).sink) n v → v ≡ None → SeveredBy p r a
-    quiet None l _ = (
-      ha,
-      inl (λ c m s.
-          let i = at_in p.channels c no_channel m in
-          l i.0 (omega (arith, i.1, en)) (i.1, subst (λ (x : Channel). Serves r a x.source x.sink) (sym i.2) s)),
-    )
-    quiet (Some k) l e = absurd (none≢some (sym e))
-
-    heard : (v : Option ℕ) → Lowest (λ k. (k < length p.channels) × Serves r a (channel_of p k).source (channel_of p k).sink) n v
-        → (k : ℕ) → v ≡ Some k → SeveredBy p r a → ⊥
-    heard None l k e s = none≢some e
-    heard (Some j) l k _ s = ⊎_elim
-        (λ f. f (channel_of p j) (in-at p.channels j no_channel l.1.0) l.1.1)
-        (λ f. false≢true (sym f ∙ e))
-        s.1
+pub severed-by : (p : Plan) (r : List Bool) (a : ℕ) (b : Bool) → a < length p.actors → at false places r a exit ≡ true
+    → MatchBool b ((k : ℕ) × (k < length p.channels) × HoldsAt (λ c. Serves r a c.source c.sink) p.channels k) (AllWithin (λ c. Serves r a c.source c.sink → ⊥) p.channels 0 (length p.channels))
+    → Decides (not b) (SeveredBy p r a)
+severed-by p r a true ha e w = (
+  λ z. absurd (false≢true z),
+  λ s. absurd (⊎_elim (λ f. f (channel_of p w.0) (in-at p.channels w.0 no_channel w.1) (w.2 no_channel)) (λ f. false≢true (sym f ∙ e)) s.1),
+)
+severed-by p r a false ha e w = (
+  λ _. (
+    ha,
+    inl (λ c m s.
+        let i = at_in p.channels c no_channel m in
+        w i.0 no_channel (omega arith) i.1 (subst (λ (x : Channel). Serves r a x.source x.sink) (sym i.2) s)),
+  ),
+  λ _. refl,
+)

@@ -1,13 +1,11 @@
 -- The fresh plan keeps every rule.
-use Rattle.std.proofs.Common.{◌≡◌, ℕ, zero, suc, ◌+◌, ◌<◌, ◌≤◌, ◌⊎◌, List, [], ◌∷◌, length, get_or, pos, sym, refl, ap, ◌∙◌, subst, inl, inr, ⊎_elim, arith, lit<, lit≤}
+use Rattle.std.proofs.Common.{◌≡◌, ℕ, zero, suc, ◌+◌, ◌<◌, ◌≤◌, sym, refl, ap, subst, inl, inr, ⊎_elim, arith, lit<, lit≤}
 use lib.Signed.{le_z_yes}
 use Rattle.line.specs.Lists.{In}
-use Rattle.line.specs.Plan.{Plan, Leads, lateness, actor_of}
-use Rattle.line.specs.Paths.{Path, hop, via, Exit, out, From}
-use Rattle.line.specs.Rules.{Sized, Ranged, Lawful, Proper, Possible, Misplaced, Doubled, Idle, Unfed, Severed, Instant, longest, weight, channel_of}
-use Rattle.line.specs.declared.parts.Source.{Source}
+use Rattle.line.specs.Plan.{Leads, lateness, actor_of}
+use Rattle.line.specs.Paths.{Path, hop, via, out}
+use Rattle.line.specs.Rules.{Sized, Ranged, Lawful, Proper, Possible, Misplaced, Doubled, Idle, Unfed, Severed, longest, weight, channel_of}
 use Rattle.line.specs.declared.parts.Source.TheVariants.{Sensor, Outlet}
-use Rattle.line.specs.declared.parts.Sink.{Sink}
 use Rattle.line.specs.declared.parts.Sink.TheVariants.{Inlet, Actuator}
 use Rattle.line.specs.declared.parts.Channel.{Channel}
 use Rattle.project.specs.Fresh.{fresh_plan}

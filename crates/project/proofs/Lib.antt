@@ -1,8 +1,10 @@
 pub mod Firsts
 pub mod Wired
 pub mod Nths
+pub mod Precedence
 pub mod Found
 pub mod Closing
+pub mod Few
 pub mod Edges
 pub mod Routes
 pub mod Slacks
@@ -11,4 +13,4 @@ pub mod Firstly
 pub mod Sounds
 pub mod Reading
 pub mod Freshly
-pub mod Sizes
+pub mod Alike

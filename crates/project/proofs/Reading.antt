@@ -1,12 +1,11 @@
 -- From the flaws of a plan to the refusals of its image.
-use Rattle.std.proofs.Common.{◌≡◌, ℕ, ◌+◌, ◌<◌, ◌≤◌, ◌⊎◌, List, sym, refl, ap, ◌∙◌, subst, inl, inr, ⊎_elim, arith, lit≤}
+use Rattle.std.proofs.Common.{◌≡◌, ℕ, ◌≤◌, List, sym, ◌∙◌, subst, ⊎_elim, lit≤}
 use Rattle.fault.specs.Table.{entry}
 use Rattle.fault.specs.declared.BytesCause.{BytesCause}
 use Rattle.fault.specs.declared.BytesCause.TheVariants.{Head, Count, Length}
 use Rattle.fault.specs.declared.RecordsCause.TheVariants.{Field, Order, Sink}
 use Rattle.fault.specs.declared.GraphCause.TheVariants.{Unwired, CutOff, ZeroLoop}
 use Rattle.fault.specs.declared.Fault.{Fault}
-use Rattle.fault.specs.declared.Fault
 use Rattle.line.specs.Plan.{Plan}
 use Rattle.line.specs.Rules.{Sized, Ranged, Lawful, Misplaced, Doubled, Severed, Instant}
 use Rattle.image.specs.Encoding.{image}

@@ -1,17 +1,14 @@
 -- Paths of channels, and paths in the table of edges that the channels draw.
-use Rattle.std.proofs.Common.{◌≡◌, ℕ, zero, suc, ◌+◌, ◌*◌, ◌^◌, ◌<◌, ◌≤◌, Bool, true, false, ◌⊎◌, List, [], ◌∷◌, length, is_some, Some, None, Decides, Option, unwrap_or, sym, refl, ap, ◌∙◌, subst, inl, inr, ⊎_elim, arith, lit<, lit≤}
+use Rattle.std.proofs.Common.{◌≡◌, ℕ, ◌+◌, ◌<◌, ◌≤◌, Bool, true, false, List, [], ◌∷◌, length, is_some, Some, None, Decides, Option, unwrap_or, sym, refl, ap, ◌∙◌, subst, arith, lit<, lit≤}
 use Rattle.std.proofs.lemmas.Bool.{false≢true}
-use Rattle.line.specs.Lists.{In}
 use Rattle.line.specs.Plan.{Plan, Leads, delay}
-use Rattle.line.specs.Paths.{Path, hop, via, Exit, out, on, Least, Distance, Deadline}
-use Rattle.line.specs.Rules.{Begins, Ends, Proper, Ranged, longest}
-use Rattle.line.specs.declared.parts.Source.{Source}
-use Rattle.line.specs.declared.parts.Source.TheVariants.{Sensor, Outlet}
+use Rattle.line.specs.Paths.{Path, hop, via, Exit, out, on, Least, Distance}
+use Rattle.line.specs.Rules.{Ends, Ranged}
+use Rattle.line.specs.declared.parts.Source.TheVariants.{Outlet}
 use Rattle.line.specs.declared.parts.Sink.{Sink}
 use Rattle.line.specs.declared.parts.Sink.TheVariants.{Inlet, Actuator}
-use Rattle.line.specs.declared.parts.Channel.{Channel}
 use Rattle.paths.specs.Paths.{at, Below, Linked, total}
-use Rattle.paths.specs.Least.{Connected, length_at, Edge, micros_at, Short, Distances, Reached}
+use Rattle.paths.specs.Least.{length_at, Edge, micros_at, Short, Distances, Reached}
 use Rattle.paths.specs.declared.span.Span.{Span}
 use Rattle.project.specs.Tables.{places, exit, place_of, Lies, Laid}
 

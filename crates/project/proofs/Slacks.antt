@@ -1,61 +1,70 @@
--- What channels ask of actors, as the code computes it.
-use Rattle.std.proofs.Common.{◌≡◌, ℕ, ◌+◌, ◌^◌, ◌<◌, ◌≤◌, Bool, true, false, cond, eqb, ◌⊎◌, List, [], ◌∷◌, ◌++◌, ℤ, pos, ◌-ℤ◌, ◌≤ℤ◌, Some, None, Option, sym, refl, ap, ◌∙◌, subst, inl, inr, ⊎_elim, arith, w64, SFits, to_z, of_z}
-use lib.Signed.{lt_z, ≤ℤ_refl}
-use Rattle.std.proofs.lemmas.Int.{ints, clamps, to_z-of_z}
-use Rattle.std.specs.Int.{int_max}
-use Rattle.std.proofs.lemmas.Bool.{ne_eqb, cases_cond}
-use Rattle.std.specs.Option.{option_map}
-use Rattle.line.specs.Plan.{Plan, lateness}
-use Rattle.line.specs.declared.parts.Source.{Source}
-use Rattle.line.specs.declared.parts.Source.TheVariants.{Sensor, Outlet}
-use Rattle.line.specs.declared.parts.Sink.{Sink}
-use Rattle.line.specs.declared.parts.Sink.TheVariants.{Inlet, Actuator}
-use Rattle.paths.specs.Least.{length_at}
-use Rattle.paths.specs.declared.span.Span.{Span}
-use Rattle.project.specs.Tables.{places}
-use Rattle.line.specs.declared.parts.Channel.{Channel}
-use Rattle.project.specs.Waits.{slack_of, gap, later, Asks, Greatest}
-use Rattle.project.proofs.Wired.{none≢some}
-use Rattle.project.proofs.Edges.{in-front, in_end, in-last}
+-- The greatest of what channels ask of an actor.
+use Rattle.std.proofs.Common.{◌≡◌, List, [], ◌∷◌, fold, ℤ, ◌<ℤ◌, ◌≤ℤ◌, Some, None, Option, Ordering, Less, Equal, Greater, sym, refl, ap, ◌∙◌, subst, inl, inr, ⊎_elim, ◌⊎◌, arith}
+use lib.Signed.{≤ℤ_refl}
+use Rattle.std.proofs.lemmas.Int.{ints}
+use Rattle.std.specs.Cmp.{int_ranks}
+use Rattle.std.specs.List.{filter_map, cons_option, reduce}
+use Rattle.std.specs.Ordering.{MatchOrdering, int_cmp, max_by_ordering}
+use Rattle.line.specs.Lists.{In}
+use Rattle.project.specs.Waits.{Greatest}
 
-pub sub-fits : (m d : ℕ) → m < 2 ^ 32 → d < 2 ^ 63 → SFits w64 (to_z w64 m -ℤ to_z w64 d)
-sub-fits m d hm hd = omega (arith, ints)
+abbrev pub larger : ℤ → ℤ → ℤ
+larger x y = max_by_ordering (int_cmp x y) x y
 
-to_pos : (m d : ℕ) → m < 2 ^ 32 → d < 2 ^ 63 → to_z w64 m -ℤ to_z w64 d ≡ pos m -ℤ pos d
-to_pos m d hm hd = omega (arith, ints)
-
-pub slack-on : (p : Plan) (f : List Span) (a s b i d m : ℕ) (x : Source) (y : Sink) → x ≡ Sensor s → y ≡ Inlet b i → m ≡ lateness p s → m < 2 ^ 32 → d < 2 ^ 63
-    → (b ≡ a → ⊥) → Some d ≡ length_at places f b a → Some (to_z w64 (of_z w64 (to_z w64 m -ℤ to_z w64 d))) ≡ slack_of p f a x y
-slack-on p f a s b i d m x y ex ey em hm hd ne e =
-    let far : eqb a b ≡ false = ne_eqb a b (λ q. ne (sym q)) in
-    let g = λ (k : ℕ). pos (lateness p s) -ℤ pos k in
-    ap Some (to_z-of_z w64 _ (sub-fits m d hm hd) ∙ to_pos m d hm hd ∙ ap (λ k. pos k -ℤ pos d) em)
-    ∙ ap (option_map g) e
-    ∙ sym (ap (λ t. option_map g (cond t (Some 0) (length_at places f b a))) far)
-    ∙ sym (ap (λ z. slack_of p f a z (Inlet b i)) ex ∙ refl)
-    ∙ sym (ap (slack_of p f a x) ey)
-
--- the greatest, with one number more
-greatest-later : (P Q : ℤ → Type 0) (v w : Option ℤ) → Greatest P v → ((z : ℤ) → P z → Q z) → ((z : ℤ) → w ≡ Some z → Q z)
-    → ((z : ℤ) → Q z → P z ⊎ (w ≡ Some z)) → Greatest Q (later v w)
-greatest-later P Q None None g up new old = λ z q. ⊎_elim (λ h. g z h) (λ e. none≢some e) (old z q)
-greatest-later P Q None (Some x) g up new old = (new x refl, λ z q. ⊎_elim (λ h. absurd (g z h)) (λ e. let s : x ≡ z = cc in subst (λ k. z ≤ℤ k) (sym s) (≤ℤ_refl z)) (old z q))
-greatest-later P Q (Some y) None g up new old = (up y g.0, λ z q. ⊎_elim (λ h. g.1 z h) (λ e. absurd (none≢some e)) (old z q))
-greatest-later P Q (Some y) (Some x) g up new old = (
-  ⊎_elim (λ l. subst Q (sym l) (up y g.0)) (λ l. subst Q (sym l) (new x refl)) (one-max y x),
-  λ z q. ⊎_elim
-      (λ h. let b : z ≤ℤ y = g.1 z h in omega (arith, ints, clamps))
-      (λ e. let s : x ≡ z = cc in omega (arith, ints, clamps))
-      (old z q),
-)
+larger-is : (x y : ℤ) → ((larger x y ≡ x) ⊎ (larger x y ≡ y)) × (x ≤ℤ larger x y) × (y ≤ℤ larger x y)
+larger-is x y = by_order (int_cmp x y) (int_ranks x y)
   where
-    one-max : (y x : ℤ) → (int_max y x ≡ y) ⊎ (int_max y x ≡ x)
-    one-max y x = cases_cond (lt_z x y) y x (int_max y x) refl
+    by_order : (o : Ordering) → MatchOrdering o (x <ℤ y) (x ≡ y) (y <ℤ x)
+        → ((max_by_ordering o x y ≡ x) ⊎ (max_by_ordering o x y ≡ y)) × (x ≤ℤ max_by_ordering o x y) × (y ≤ℤ max_by_ordering o x y)
+    by_order Less h = (inr refl, omega (arith, ints, h), ≤ℤ_refl y)
+    by_order Equal h = (inr refl, subst (λ z. x ≤ℤ z) h (≤ℤ_refl x), ≤ℤ_refl y)
+    by_order Greater h = (inl refl, ≤ℤ_refl x, omega (arith, ints, h))
 
-pub asks-more : (p : Plan) (f : List Span) (a : ℕ) (xs : List Channel) (c : Channel) (v w : Option ℤ) → Greatest (Asks p f a xs) v → w ≡ slack_of p f a c.source c.sink
-    → Greatest (Asks p f a (xs ++ c ∷ [])) (later v w)
-asks-more p f a xs c v w g e =
-    greatest-later (Asks p f a xs) (Asks p f a (xs ++ c ∷ [])) v w g
-    (λ z h. (h.0, in-front h.0 xs (c ∷ []) h.1, h.2))
-    (λ z h. (c, in_end c xs, sym e ∙ h))
-    (λ z h. ⊎_elim (λ m. inl (h.0, m, h.2)) (λ s. inr (e ∙ ap (λ (k : Channel). slack_of p f a k.source k.sink) (sym s) ∙ h.2)) (in-last h.0 c xs h.1))
+-- the fold from m is m or an element, and the greatest of them
+folded : (xs : List ℤ) (m : ℤ) → ((fold larger m xs ≡ m) ⊎ In (fold larger m xs) xs) × (m ≤ℤ fold larger m xs) × ((w : ℤ) → In w xs → w ≤ℤ fold larger m xs)
+folded [] m = (inl refl, ≤ℤ_refl m, λ w k. absurd k)
+folded (x ∷ xs) m =
+    let l = larger-is m x in
+    let f = folded xs (larger m x) in (
+      ⊎_elim (λ e. ⊎_elim (λ s. inl (e ∙ s)) (λ s. inr (inl (e ∙ s))) l.0) (λ k. inr (inr k)) f.0,
+      omega (arith, ints, l.1, f.1),
+      λ w k. ⊎_elim (λ e. subst (λ z. z ≤ℤ fold larger (larger m x) xs) (sym e) (omega (arith, ints, l.2, f.1))) (λ n. f.2 w n) k,
+    )
+
+greatest-of : (xs : List ℤ) → Greatest (λ w. In w xs) (reduce larger xs)
+greatest-of [] = λ w k. k
+greatest-of (x ∷ xs) =
+    let f = folded xs x in (
+      f.0,
+      λ w k. ⊎_elim (λ e. subst (λ z. z ≤ℤ fold larger x xs) (sym e) f.1) (λ n. f.2 w n) k,
+    )
+
+greatest-same : (P Q : ℤ → Type 0) (v : Option ℤ) → ((w : ℤ) → P w → Q w) → ((w : ℤ) → Q w → P w) → Greatest P v → Greatest Q v
+greatest-same P Q None to back g = λ w q. g w (back w q)
+greatest-same P Q (Some m) to back g = (to m g.0, λ w q. g.1 w (back w q))
+
+-- what is kept of a list comes from its elements
+module _ {A : Type 0} (h : A → Option ℤ) where
+  in-more : (w : ℤ) (v : Option ℤ) (ys : List ℤ) → In w ys → In w (cons_option v ys)
+  in-more w None ys m = m
+  in-more w (Some x) ys m = inr m
+
+  to-kept : (w : ℤ) (xs : List A) (c : A) → In c xs → h c ≡ Some w → In w (filter_map h xs)
+  to-kept w [] c m e = absurd m
+  to-kept w (x ∷ xs) c (inl s) e = subst (λ v. In w (cons_option v (filter_map h xs))) (sym (ap h (sym s) ∙ e)) (inl refl)
+  to-kept w (x ∷ xs) c (inr m) e = in-more w (h x) (filter_map h xs) (to-kept w xs c m e)
+
+  from-kept : (w : ℤ) (xs : List A) → In w (filter_map h xs) → (c : A) × In c xs × (h c ≡ Some w)
+  from-kept w [] m = absurd m
+  from-kept w (x ∷ xs) m = by_first (h x) refl (λ k. let r = from-kept w xs k in (r.0, inr r.1, r.2)) m
+    where
+      by_first : (v : Option ℤ) → h x ≡ v → (In w (filter_map h xs) → (c : A) × In c (x ∷ xs) × (h c ≡ Some w)) → In w (cons_option v (filter_map h xs))
+          → (c : A) × In c (x ∷ xs) × (h c ≡ Some w)
+      by_first None e on k = on k
+      by_first (Some y) e on (inl s) = (x, inl refl, e ∙ ap Some (sym s))
+      by_first (Some y) e on (inr k) = on k
+
+  pub greatest_kept : (xs : List A) → Greatest (λ w. (c : A) × In c xs × (h c ≡ Some w)) (reduce larger (filter_map h xs))
+  greatest_kept xs =
+      greatest-same (λ w. In w (filter_map h xs)) (λ w. (c : A) × In c xs × (h c ≡ Some w)) (reduce larger (filter_map h xs))
+      (λ w m. from-kept w xs m) (λ w r. to-kept w xs r.0 r.1 r.2) (greatest-of (filter_map h xs))

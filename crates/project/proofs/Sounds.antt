@@ -1,5 +1,5 @@
 -- A lawful draft with its tables is a sound line.
-use Rattle.std.proofs.Common.{◌≡◌, ℕ, ◌<◌, List, length, get_or, ℤ, pos, Some, None, Option, unwrap_or, sym, subst, inr, arith}
+use Rattle.std.proofs.Common.{ℕ, ◌<◌, List, length, get_or, ℤ, pos, Some, None, Option, unwrap_or, sym, subst, inr, arith}
 use Rattle.image.specs.Drafts.{plan_of}
 use Rattle.image.specs.declared.draft.Draft.{Draft}
 use Rattle.line.specs.Plan.{Plan}

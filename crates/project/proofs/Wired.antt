@@ -1,6 +1,7 @@
 -- What the first channel from a source, or to a sink, says of all channels.
-use Rattle.std.proofs.Common.{◌≡◌, ℕ, zero, suc, ◌+◌, ◌<◌, ◌≤◌, Bool, true, false, cond, ◌&&◌, eqb, ◌⊎◌, List, [], ◌∷◌, length, get_or, take, Some, None, Option, sym, refl, ap, ◌∙◌, subst, inl, inr, ⊎_elim, arith}
+use Rattle.std.proofs.Common.{◌≡◌, ℕ, zero, suc, ◌<◌, Bool, true, false, cond, eqb, ◌⊎◌, List, [], ◌∷◌, length, get_or, Some, None, Decides, Option, sym, refl, ap, ◌∙◌, subst, inl, inr, ⊎_elim, arith}
 use Rattle.std.proofs.lemmas.Bool.{eq-eqb, eqb-true, and_parts, and_from, false≢true}
+use Rattle.std.proofs.lemmas.Bool.Decides.{same_from_decides}
 use Rattle.line.specs.Lists.{In, first}
 use Rattle.line.specs.Plan.{same_source, same_sink, end_of, start_of}
 use Rattle.line.specs.declared.parts.Source.{Source}
@@ -32,6 +33,13 @@ sink-same (Actuator q) (Actuator r) e = ap Actuator (eqb-true q r e)
 pub sink-self : (x : Sink) → same_sink x x ≡ true
 sink-self (Inlet a i) = and_from (eqb a a) (eqb i i) (eq-eqb a a refl) (eq-eqb i i refl)
 sink-self (Actuator q) = eq-eqb q q refl
+
+-- a test that decides equality answers as the definitions do
+pub told-source : {Q : Type 0} (b : Bool) (x y : Source) → Q × Decides b (x ≡ y) → Q × (b ≡ same_source x y)
+told-source b x y w = (w.0, same_from_decides b (same_source x y) w.1 (source-same x y, λ e. subst (λ (z : Source). same_source x z ≡ true) e (source-self x)))
+
+pub told-sink : {Q : Type 0} (b : Bool) (x y : Sink) → Q × Decides b (x ≡ y) → Q × (b ≡ same_sink x y)
+told-sink b x y w = (w.0, same_from_decides b (same_sink x y) w.1 (sink-same x y, λ e. subst (λ (z : Sink). same_sink x z ≡ true) e (sink-self x)))
 
 pub none≢some : {B : Type 0} {y : B} → None ≡ Some y → ⊥
 none≢some e = let z : ◌≡◌ {A = ℕ} 0 1 = cc in omega arith

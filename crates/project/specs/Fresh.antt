@@ -1,5 +1,5 @@
 -- The project that a new drawing begins with: one sensor, one pass and one actuator in a row.
-use Rattle.std.specs.Prelude.{List, [], ◌∷◌, pos}
+use Rattle.std.specs.Prelude.{[], ◌∷◌, pos}
 use Rattle.line.specs.Plan.{Plan}
 use Rattle.line.specs.declared.parts.Kind.TheVariants.{Pass}
 use Rattle.line.specs.declared.parts.Source.TheVariants.{Sensor, Outlet}

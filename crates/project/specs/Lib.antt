@@ -1,4 +1,3 @@
-pub mod Search
 pub mod Tables
 pub mod Waits
 pub mod Flawed

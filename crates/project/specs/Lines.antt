@@ -1,5 +1,5 @@
 -- The line that a draft with its tables means.
-use Rattle.std.specs.Prelude.{ℕ, List, ℤ, pos, slice_index_or}
+use Rattle.std.specs.Prelude.{List, ℤ, pos, slice_index_or}
 use Rattle.std.specs.Option.{unwrap_or}
 use Rattle.image.specs.Drafts.{plan_of}
 use Rattle.image.specs.declared.draft.Draft.{Draft}

@@ -1,5 +1,5 @@
 -- What a project answers by number.
-use Rattle.std.specs.Prelude.{ℕ, cond, ◌&&◌, length, ℤ, Some, None, Option, nat_lt}
+use Rattle.std.specs.Prelude.{ℕ, cond, ◌&&◌, length, ℤ, None, Option, nat_lt}
 use Rattle.std.specs.Bool.{then_some}
 use Rattle.line.specs.Times.{Line}
 

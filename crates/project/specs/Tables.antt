@@ -50,7 +50,7 @@ Laid p cs t = (b a : ℕ) → b < places → a < places → Least (Lies p cs b a
 pub record Far (p : Plan) (r : List Span) : Type 0 where
   pub distances : (b a : ℕ) → b < exit → a < exit → Distance p b a (length_at places r b a)
   pub exits : (b : ℕ) → b < exit → Least (Exit p b) (length_at places r b exit)
-  pub small : (b a d : ℕ) → b < places → a < places → length_at places r b a ≡ Some d → d < 2 ^ 63
+  pub small : (b a d : ℕ) → a < places → length_at places r b a ≡ Some d → d < 2 ^ 63
 
 -- which actors reach which, and which reach an actuator
 pub record Reach (p : Plan) (r : List Bool) : Type 0 where

@@ -1,6 +1,5 @@
 -- How the wait of an actor comes from the channels of sensors and a table of distances.
 use Rattle.std.specs.Prelude.{◌≡◌, ℕ, cond, List, ℤ, pos, ◌-ℤ◌, ◌≤ℤ◌, Some, None, Option, MatchOption, ◌==◌}
-use Rattle.std.specs.Int.{int_max}
 use Rattle.std.specs.Option.{option_map, unwrap_or}
 use Rattle.line.specs.Lists.{In}
 use Rattle.line.specs.Plan.{Plan, lateness}
@@ -23,12 +22,6 @@ slack_of p f a (Sensor s) (Inlet b i) = option_map (λ d. pos (lateness p s) -�
 slack_of p f a (Sensor s) (Actuator q) = None
 slack_of p f a (Outlet c o) (Inlet b i) = None
 slack_of p f a (Outlet c o) (Actuator q) = None
-
--- the greater of two, where there are two
-abbrev pub later : Option ℤ → Option ℤ → Option ℤ
-later None v = v
-later (Some w) None = Some w
-later (Some w) (Some v) = Some (int_max w v)
 
 -- a channel of cs asks w of actor a
 abbrev pub Asks : Plan → List Span → ℕ → List Channel → ℤ → Type 0

@@ -1,81 +1,98 @@
 // The rules between the records of a draft whose fields are in range, in the order of their refusals.
-ghost use Rattle.std.specs.Prelude.{◌≤◌, length, MatchResult};
+ghost use Rattle.std.specs.Prelude.{◌≤◌, ℕ, ◌+◌, ◌<◌, true, false, length, MatchResult};
 ghost use Rattle.image.specs.Drafts.{plan_of};
-ghost use Rattle.line.specs.Rules.{Misplaced, Doubled, Severed, Instant, Sized, Ranged, Lawful};
+ghost use Rattle.line.specs.Rules.{Misplaced, Doubled, Idle, Unfed, Severed, Instant, Sized, Ranged, Lawful};
 ghost use Rattle.fault.specs.declared.RecordsCause.TheVariants.{Order as Unordered, Sink as Shared};
 ghost use Rattle.fault.specs.declared.GraphCause.TheVariants.{Unwired as Unwired, CutOff as CutOff, ZeroLoop as ZeroLoop};
 ghost use Rattle.fault.specs.declared.Fault.TheVariants.{Records as OfRecords, Graph as OfGraph};
-ghost use Rattle.image.specs.Refusals.{Loose};
 ghost use Rattle.project.specs.Flawed.{Cleared, FirstFlaw};
 ghost use Rattle.project.specs.Tables.{Far};
 
-use super::flaws::{
-    CutOffActor, IdleSensor, MisplacedChannel, SharedSink, UnfedActuator, ZeroLoopActor,
-};
-use super::search::lowest;
+use super::flaws::{is_cut_off, is_doubled, is_idle, is_instant, is_misplaced, is_unfed};
 use super::tables::{far, reach};
 use fault::{Fault, GraphCause, RecordsCause};
 use image::draft::Draft;
 use paths::Span;
 
+// Refuses the lowest number below n that has the flaw.
+fn refuse<C: Fn(usize) -> bool, R: FnOnce(u64) -> Fault>(
+    n: usize,
+    has_flaw: C,
+    refusal: R,
+) -> Result<(), Fault>
+    requires test { C.IsAlwaysCallable has_flaw }
+    requires refusal { (k : ℕ) → k < n → R.pre refusal k }
+    ensures { MatchResult result (λ _. (k : ℕ) → k < n → C.post has_flaw k false) (λ f. (k : ℕ) × (k < n) × R.post refusal k f × C.post has_flaw k true × ((j : ℕ) → j < k → C.post has_flaw j false)) }
+{
+    match (0..n).find(|k| has_flaw(*k)) {
+        Some(k) => Err(refusal(k as u64)),
+        None => Ok(()),
+    }
+}
+
 fn check_order(draft: &Draft) -> Result<(), Fault>
     ensures { Cleared (Misplaced (plan_of draft.now)) (OfRecords Unordered) result }
 {
-    match lowest(&MisplacedChannel(draft), draft.channels.len()) {
-        Some(k) => Err(Fault::Records(RecordsCause::Order, k as u64)),
-        None => Ok(()),
-    }
+    refuse(
+        draft.channels.len(),
+        |k| is_misplaced(draft, k),
+        |k| Fault::Records(RecordsCause::Order, k),
+    )
 }
 
 fn check_sinks(draft: &Draft) -> Result<(), Fault>
     ensures { Cleared (Doubled (plan_of draft.now)) (OfRecords Shared) result }
 {
-    match lowest(&SharedSink(draft), draft.channels.len()) {
-        Some(k) => Err(Fault::Records(RecordsCause::Sink, k as u64)),
-        None => Ok(()),
-    }
+    refuse(
+        draft.channels.len(),
+        |k| is_doubled(draft, k),
+        |k| Fault::Records(RecordsCause::Sink, k),
+    )
 }
 
-fn check_wired(draft: &Draft) -> Result<(), Fault>
-    ensures { Cleared (Loose (plan_of draft.now)) (OfGraph Unwired) result }
+fn check_sensors(draft: &Draft) -> Result<(), Fault>
+    ensures { Cleared (Idle (plan_of draft.now)) (OfGraph Unwired) result }
 {
-    if let Some(s) = lowest(&IdleSensor(draft), draft.sensors.len()) {
-        return Err(Fault::Graph(GraphCause::Unwired, s as u64));
-    }
-    match lowest(&UnfedActuator(draft), draft.actuators as usize) {
-        Some(q) => Err(Fault::Graph(GraphCause::Unwired, 16 + q as u64)),
-        None => Ok(()),
-    }
+    refuse(
+        draft.sensors.len(),
+        |s| is_idle(draft, s),
+        |s| Fault::Graph(GraphCause::Unwired, s),
+    )
+}
+
+// Actuators come after sixteen places for sensors.
+fn check_actuators(draft: &Draft) -> Result<(), Fault>
+    ensures { Cleared (Unfed (plan_of draft.now)) (λ q. OfGraph Unwired (16 + q)) result }
+{
+    refuse(
+        draft.actuators as usize,
+        |q| is_unfed(draft, q),
+        |q| Fault::Graph(GraphCause::Unwired, 16 + q),
+    )
 }
 
 fn check_reach(draft: &Draft) -> Result<(), Fault>
-    requires few { length (plan_of draft.now).actors ≤ 32 }
     requires ranged { Ranged (plan_of draft.now) }
     ensures { Cleared (Severed (plan_of draft.now)) (OfGraph CutOff) result }
 {
     let reach = reach(draft);
-    match lowest(
-        &CutOffActor {
-            draft,
-            reach: &reach,
-        },
+    refuse(
         draft.actors.len(),
-    ) {
-        Some(a) => Err(Fault::Graph(GraphCause::CutOff, a as u64)),
-        None => Ok(()),
-    }
+        |a| is_cut_off(draft, &reach, a),
+        |a| Fault::Graph(GraphCause::CutOff, a),
+    )
 }
 
-fn check_loops<'a>(draft: &'a Draft, far: &'a [Span; 1089]) -> Result<(), Fault>
-    requires few { length (plan_of draft.now).actors ≤ 32 }
+fn check_loops(draft: &Draft, far: &[Span; 1089]) -> Result<(), Fault>
     requires ranged { Ranged (plan_of draft.now) }
     requires far { Far (plan_of draft.now) far.now }
     ensures { Cleared (Instant (plan_of draft.now)) (OfGraph ZeroLoop) result }
 {
-    match lowest(&ZeroLoopActor { draft, far }, draft.actors.len()) {
-        Some(a) => Err(Fault::Graph(GraphCause::ZeroLoop, a as u64)),
-        None => Ok(()),
-    }
+    refuse(
+        draft.actors.len(),
+        |a| is_instant(draft, far, a),
+        |a| Fault::Graph(GraphCause::ZeroLoop, a),
+    )
 }
 
 // The distances of a draft that keeps every rule, or its first flaw.
@@ -86,7 +103,8 @@ pub fn check(draft: &Draft) -> Result<[Span; 1089], Fault>
 {
     check_order(draft)?;
     check_sinks(draft)?;
-    check_wired(draft)?;
+    check_sensors(draft)?;
+    check_actuators(draft)?;
     check_reach(draft)?;
     let far = far(draft);
     check_loops(draft, &far)?;

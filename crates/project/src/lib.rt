@@ -4,7 +4,6 @@
 mod checks;
 mod flaws;
 pub mod project;
-mod search;
 mod tables;
 mod waits;
 mod wiring;

@@ -1,5 +1,6 @@
 // Tables between 33 places, row by row: the 32 actors, and one place for all actuators.
-ghost use Rattle.std.specs.Prelude.{◌≡◌, ℕ, ◌<◌, ◌≤◌, false, length, is_some, slice_index_or};
+ghost use Rattle.std.specs.Prelude.{◌≡◌, ℕ, ◌+◌, ◌*◌, ◌<◌, ◌≤◌, false, length, is_some, slice_index_or};
+ghost use Rattle.std.specs.List.{slice_get};
 ghost use Rattle.image.specs.Drafts.{plan_of};
 ghost use Rattle.line.specs.Rules.{Proper, Ranged, Sized};
 ghost use Rattle.line.specs.Plan.{delay};
@@ -16,8 +17,6 @@ pub const PLACES: usize = 33;
 
 pub const EXIT: u8 = 32;
 
-pub const CELLS: usize = 1089;
-
 fn place_of(sink: Sink) -> usize
     ensures { result ≡ place_of sink }
 {
@@ -31,15 +30,11 @@ fn place_of(sink: Sink) -> usize
 pub fn delay_at(draft: &Draft, actor: usize, _outlet: usize) -> u32
     ensures { result ≡ delay (plan_of draft.now) actor _outlet }
 {
-    match draft.actors.get(actor) {
-        Some(found) => found.delay,
-        None => 0,
-    }
+    draft.actors.get(actor).map_or(0, |found| found.delay)
 }
 
 // Lays the edge of one channel into the table, beside those that are there.
 fn lay(table: &mut [Span; 1089], draft: &Draft, channel: Channel)
-    requires few { length (plan_of draft.now).actors ≤ 32 }
     requires proper { Proper (plan_of draft.now) channel }
     ensures { Adds (plan_of draft.now) channel table.old table.new }
 {
@@ -52,7 +47,6 @@ fn lay(table: &mut [Span; 1089], draft: &Draft, channel: Channel)
 
 // The edges that the channels of a draft draw.
 fn edges(draft: &Draft) -> [Span; 1089]
-    requires few { length (plan_of draft.now).actors ≤ 32 }
     requires ranged { Ranged (plan_of draft.now) }
     ensures { Laid (plan_of draft.now) (plan_of draft.now).channels result }
 {
@@ -66,7 +60,6 @@ fn edges(draft: &Draft) -> [Span; 1089]
 
 // The least sums of delays between actors, and from actors to an actuator.
 pub fn far(draft: &Draft) -> [Span; 1089]
-    requires few { length (plan_of draft.now).actors ≤ 32 }
     requires ranged { Ranged (plan_of draft.now) }
     ensures { Far (plan_of draft.now) result }
 {
@@ -79,16 +72,11 @@ pub fn far(draft: &Draft) -> [Span; 1089]
 fn links(edges: &[Span; 1089]) -> [bool; 1089]
     ensures { (k : ℕ) → k < 1089 → slice_index_or result k false ≡ is_some (length_of (slice_index_or edges.now k no_span)) }
 {
-    let mut table = [false; 1089];
-    for k in 0..1089 {
-        table[k] = edges[k].length().is_some();
-    }
-    table
+    edges.map(|span| span.length().is_some())
 }
 
 // Which actors reach which, and which reach an actuator.
 pub fn reach(draft: &Draft) -> [bool; 1089]
-    requires few { length (plan_of draft.now).actors ≤ 32 }
     requires ranged { Ranged (plan_of draft.now) }
     ensures { Reach (plan_of draft.now) result }
 {
@@ -97,24 +85,23 @@ pub fn reach(draft: &Draft) -> [bool; 1089]
     table
 }
 
+// The cell of the table from b to a, if it has one.
+fn cell<T: Copy>(table: &[T], b: u8, a: u8) -> Option<T>
+    ensures { result ≡ slice_get table.now (b * places + a) }
+{
+    table.get(b as usize * PLACES + a as usize).copied()
+}
+
 // Whether the table leads from b to a.
 pub fn leads(table: &[bool; 1089], b: u8, a: u8) -> bool
     ensures { result ≡ at false places table.now b a }
 {
-    let k = b as usize * PLACES + a as usize;
-    if k >= CELLS {
-        return false;
-    }
-    table[k]
+    cell(table, b, a).unwrap_or(false)
 }
 
 // The length from b to a, if the table has one.
 pub fn span_between(table: &[Span; 1089], b: u8, a: u8) -> Option<u64>
     ensures { result ≡ length_at places table.now b a }
 {
-    let k = b as usize * PLACES + a as usize;
-    if k >= CELLS {
-        return None;
-    }
-    table[k].length()
+    cell(table, b, a)?.length()
 }

@@ -1,15 +1,14 @@
-ghost use Rattle.std.specs.Prelude.{◌≡◌, length, replicate, Decides};
+ghost use Rattle.std.specs.Prelude.{◌≡◌, Decides};
+ghost use Rattle.image.specs.Drafts.{plan_of};
 ghost use Rattle.image.specs.Emission.{answer, written};
-ghost use Rattle.image.specs.Bytes.{put};
 ghost use Rattle.image.specs.Encoding.{image};
 ghost use Rattle.project.specs.Project.{RoundTrips, plan};
 
 use super::Project;
 use fault::Fault;
+use image::draft::Draft;
 use image::emit;
-
-// The longest image: 16 sensors, 32 actors and 96 channels.
-const LONGEST: usize = 937;
+use line::parts::{Actor, Channel};
 
 impl Project {
     // Writes the image to the front of the buffer, leaves the rest and gives the length; a shorter buffer is left as it is.
@@ -25,31 +24,26 @@ impl Project {
         ensures { RoundTrips }
     {}
 
-    // The image in front of zeros, and its length.
-    fn spelled(&self) -> ([u8; 937], usize)
-        ensures bytes { result.0 ≡ put (replicate 937 0) 0 (image (plan self.now)) }
-        ensures size { result.1 ≡ length (image (plan self.now)) }
-    {
-        let mut bytes = [0; LONGEST];
-        match self.write(&mut bytes) {
-            Ok(size) => (bytes, size),
-            Err(_) => unreachable(),
-        }
-    }
-
-    // Whether two projects are the same line: whether their images are equal, and so whether they say the same.
+    // Whether two projects are the same line: whether they say the same, and so whether their images are equal.
     pub fn same_line(&self, other: &Project) -> bool
         ensures images { Decides result (image (plan self.now) ≡ image (plan other.now)) }
         ensures plans { Decides result ∥ plan self.now ≡ plan other.now ∥₁ }
     {
-        let (mine, size) = self.spelled();
-        let (theirs, other_size) = other.spelled();
-        size == other_size && equal(&mine, &theirs)
+        parts(&self.draft) == parts(&other.draft)
     }
 }
 
-fn equal(a: &[u8], b: &[u8]) -> bool
-    ensures { Decides result (a.now ≡ b.now) }
+// What a draft says: its sensors, actors, actuators and channels.
+fn parts(draft: &Draft) -> (&[u32], &[Actor], u8, &[Channel])
+    ensures sensors { result.0.now ≡ (plan_of draft.now).sensors }
+    ensures actors { result.1.now ≡ (plan_of draft.now).actors }
+    ensures actuators { result.2 ≡ (plan_of draft.now).actuators }
+    ensures channels { result.3.now ≡ (plan_of draft.now).channels }
 {
-    a == b
+    (
+        draft.sensors.as_slice(),
+        draft.actors.as_slice(),
+        draft.actuators,
+        draft.channels.as_slice(),
+    )
 }

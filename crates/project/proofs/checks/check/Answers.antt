@@ -1,8 +1,7 @@
-use Rattle.std.proofs.Common.{◌≡◌, sym, subst}
+use Rattle.std.proofs.Common.{Ok, Err}
 use Rattle.image.specs.Drafts.{plan_of}
 use Rattle.std.proofs.lemmas.Result.{err_from_is_err_and}
-use Rattle.project.specs.Flawed.{FirstFlaw}
-use Rattle.project.proofs.Firstly.{first-order, first-sink, first-loose, first-severed, first-instant, lawful}
+use Rattle.project.proofs.Firstly.{first-order, first-sink, first-loose, first-severed, first-instant, lawful, idle-loose, unfed-loose}
 use Rattle.project.proofs.checks.check.Goals as goal
 
 pub returns-in_err-check_order : goal.returns-in_err-check_order
@@ -19,11 +18,18 @@ returns-in_err-check_sinks c =
     let w = c.in_err-check_sinks.ensures in
     rw (e.1, e.2, w.1) (first-sink p c.in_ok-check_order.ensures w.0 (w.2, w.3))
 
-pub returns-in_err-check_wired : goal.returns-in_err-check_wired
-returns-in_err-check_wired c =
+pub returns-in_err-check_sensors : goal.returns-in_err-check_sensors
+returns-in_err-check_sensors c =
     let p = plan_of c.args.draft.now in
-    let e = err_from_is_err_and c.from_residual-in_err-check_wired.result c.from_residual-in_err-check_wired.ensures.1 in
-    let w = c.in_err-check_wired.ensures in
+    let e = err_from_is_err_and c.from_residual-in_err-check_sensors.result c.from_residual-in_err-check_sensors.ensures.1 in
+    let w = idle-loose p c.requires.sized.few_sensors c.in_err-check_sensors.field-0.0 c.in_err-check_sensors.ensures in
+    rw (e.1, e.2, w.1) (first-loose p c.in_ok-check_order.ensures c.in_ok-check_sinks.ensures w.0 (w.2, w.3))
+
+pub returns-in_err-check_actuators : goal.returns-in_err-check_actuators
+returns-in_err-check_actuators c =
+    let p = plan_of c.args.draft.now in
+    let e = err_from_is_err_and c.from_residual-in_err-check_actuators.result c.from_residual-in_err-check_actuators.ensures.1 in
+    let w = unfed-loose p (Err c.in_err-check_actuators.field-0.0) c.in_ok-check_sensors.ensures c.in_err-check_actuators.ensures in
     rw (e.1, e.2, w.1) (first-loose p c.in_ok-check_order.ensures c.in_ok-check_sinks.ensures w.0 (w.2, w.3))
 
 pub returns-in_err-check_reach : goal.returns-in_err-check_reach
@@ -31,14 +37,16 @@ returns-in_err-check_reach c =
     let p = plan_of c.args.draft.now in
     let e = err_from_is_err_and c.from_residual-in_err-check_reach.result c.from_residual-in_err-check_reach.ensures.1 in
     let w = c.in_err-check_reach.ensures in
-    rw (e.1, e.2, w.1) (first-severed p c.in_ok-check_order.ensures c.in_ok-check_sinks.ensures c.in_ok-check_wired.ensures w.0 (w.2, w.3))
+    rw (e.1, e.2, w.1) (first-severed p c.in_ok-check_order.ensures c.in_ok-check_sinks.ensures (unfed-loose p (Ok tt) c.in_ok-check_sensors.ensures c.in_ok-check_actuators.ensures) w.0 (w.2, w.3))
 
 pub returns-in_err-check_loops : goal.returns-in_err-check_loops
 returns-in_err-check_loops c =
     let p = plan_of c.args.draft.now in
     let e = err_from_is_err_and c.from_residual-in_err-check_loops.result c.from_residual-in_err-check_loops.ensures.1 in
     let w = c.in_err-check_loops.ensures in
-    rw (e.1, e.2, w.1) (first-instant p c.in_ok-check_order.ensures c.in_ok-check_sinks.ensures c.in_ok-check_wired.ensures c.in_ok-check_reach.ensures w.0 (w.2, w.3))
+    rw (e.1, e.2, w.1) (first-instant p c.in_ok-check_order.ensures c.in_ok-check_sinks.ensures (unfed-loose p (Ok tt) c.in_ok-check_sensors.ensures c.in_ok-check_actuators.ensures) c.in_ok-check_reach.ensures w.0 (w.2, w.3))
 
 pub returns : goal.returns
-returns c = (lawful (plan_of c.args.draft.now) c.requires.sized c.requires.ranged c.in_ok-check_order.ensures c.in_ok-check_sinks.ensures c.in_ok-check_wired.ensures c.in_ok-check_reach.ensures c.in_ok-check_loops.ensures, c.far-far.ensures)
+returns c =
+    let p = plan_of c.args.draft.now in
+    (lawful p c.requires.sized c.requires.ranged c.in_ok-check_order.ensures c.in_ok-check_sinks.ensures (unfed-loose p (Ok tt) c.in_ok-check_sensors.ensures c.in_ok-check_actuators.ensures) c.in_ok-check_reach.ensures c.in_ok-check_loops.ensures, c.far-far.ensures)

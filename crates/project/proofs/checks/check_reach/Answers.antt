@@ -1,15 +1,15 @@
-use Rattle.std.proofs.Common.{◌≡◌, refl, arith}
+use Rattle.std.proofs.Common.{arith, rules}
+use borrow.Author.Tests.{tests}
 use Rattle.image.specs.Drafts.{plan_of}
+use Rattle.project.proofs.Few.{few}
+use Rattle.project.specs.Tables.{SeveredBy}
 use Rattle.project.proofs.Delays.{severed-is}
+use Rattle.project.proofs.Firstly.{cleared, cleared-same}
 use Rattle.project.proofs.checks.check_reach.Goals as goal
 
-pub returns-in-Some : goal.returns-in-Some
-returns-in-Some c =
-    let same = severed-is (plan_of c.args.draft.now) c.requires.few c.requires.ranged _ c.reach-reach.ensures in
-    let h = c.in-Some.ensures in
-    (c.in-Some.a, refl, (same c.in-Some.a).0 h.1, λ j lt s. h.2 j lt ((same j).1 s))
-
-pub returns-in-None : goal.returns-in-None
-returns-in-None c = λ k s.
-    let same = severed-is (plan_of c.args.draft.now) c.requires.few c.requires.ranged _ c.reach-reach.ensures in
-    c.in-None.ensures k (omega (arith, s.0, c.len.ensures.count)) ((same k).1 s)
+pub returns : goal.returns
+returns c =
+    let p = plan_of c.args.draft.now in
+    cleared-same _ _ _ c.refuse.result (severed-is p (few c.args.draft.now) c.requires.ranged _ c.reach-reach.ensures)
+    (cleared (SeveredBy p c.reach-reach.result) _ _ _ _ _ _ c.refuse.ensures
+    (λ k m. omega (arith, m.0, c.len.ensures.count)) (λ k y. search (rules, tests)) (λ k y. search (rules, tests)) (λ k e m. search (rules, tests)))

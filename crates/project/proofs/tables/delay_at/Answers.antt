@@ -1,10 +1,10 @@
-use Rattle.std.proofs.Common.{◌≡◌, sym, ap, ◌∙◌}
+use Rattle.std.proofs.Common.{◌≡◌, unwrap_or, ap, ◌∙◌, rules}
+use Rattle.std.specs.Option.{option_map}
 use Rattle.line.specs.Plan.{nobody}
-use Rattle.project.proofs.Nths.{slice_get-some, slice_get-none}
+use Rattle.project.proofs.Nths.{field-got}
 use Rattle.project.proofs.tables.delay_at.Goals as goal
 
-pub returns-in-Some : goal.returns-in-Some
-returns-in-Some c = ap (λ x. x.delay) (slice_get-some _ c.args.actor _ nobody c.in-Some.ensures).1
-
-pub returns-in-None : goal.returns-in-None
-returns-in-None c = ap (λ x. x.delay) (slice_get-none _ c.args.actor nobody c.in-None.ensures).1
+pub returns : goal.returns
+returns c =
+    let told : c.map_or.result ≡ unwrap_or (option_map (λ x. x.delay) c.get.result) 0 = search rules in
+    told ∙ ap (λ v. unwrap_or (option_map (λ x. x.delay) v) 0) c.get.ensures ∙ field-got (λ x. x.delay) _ c.args.actor nobody

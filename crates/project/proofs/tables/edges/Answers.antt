@@ -1,8 +1,8 @@
-use Rattle.std.proofs.Common.{◌≡◌, ◌+◌, ◌<◌, List, length, take, replicate, sym, ap, ◌∙◌, subst, arith}
+use Rattle.std.proofs.Common.{List, take, replicate, sym, ◌∙◌, subst}
 use Rattle.image.specs.Drafts.{plan_of}
 use Rattle.std.proofs.lemmas.List.{take_more, take_all}
 use Rattle.line.specs.Lists.{In}
-use Rattle.line.specs.Rules.{no_channel, Proper}
+use Rattle.line.specs.Rules.{no_channel}
 use Rattle.line.specs.declared.parts.Channel.{Channel}
 use Rattle.project.specs.Tables.{Laid}
 use Rattle.project.proofs.Wired.{in-at}
@@ -16,7 +16,7 @@ pub lay-requires : goal.lay-requires
 lay-requires c =
     let p = plan_of c.args.draft.now in
     let there = in-at c.as_slice-channels.result.now c.loop-c.c-index no_channel c.loop-c-test.true in
-    record { few = c.requires.few; proper = c.requires.ranged.channels _ (subst (In _) c.as_slice-channels.ensures there) }
+    record { proper = c.requires.ranged.channels _ (subst (In _) c.as_slice-channels.ensures there) }
 
 pub loop-c-preserved : goal.loop-c-preserved
 loop-c-preserved c =

@@ -1,7 +1,10 @@
-use Rattle.std.proofs.Common.{◌≡◌, sym, ap, arith}
+use Rattle.std.proofs.Common.{◌+◌, ◌*◌, ap, ◌∙◌}
 use Rattle.paths.specs.Spans.{length_of, no_span}
-use Rattle.std.proofs.lemmas.List.{get_or_past}
+use Rattle.project.proofs.Nths.{slice_get-some, slice_get-none}
 use Rattle.project.proofs.tables.span_between.Goals as goal
 
-pub returns-then-k-ge-CELLS : goal.returns-then-k-ge-CELLS
-returns-then-k-ge-CELLS c = ap length_of (sym (get_or_past c.args.table.now _ no_span (omega arith)))
+pub returns-in_err-cell : goal.returns-in_err-cell
+returns-in_err-cell c = c.from_residual.ensures ∙ ap length_of (slice_get-none _ (c.args.b * 33 + c.args.a) no_span c.in_err-cell.ensures).1
+
+pub returns : goal.returns
+returns c = c.length.ensures ∙ ap length_of (slice_get-some _ (c.args.b * 33 + c.args.a) _ no_span c.in_ok-cell.ensures).1

@@ -1,13 +1,17 @@
-use Rattle.std.proofs.Common.{◌≡◌, sym, ◌∙◌, arith}
+use Rattle.std.proofs.Common.{rules, ◌≡◌, ◌∙◌, ap, Bool}
+use borrow.Author.Tests.{tests}
+use Rattle.std.proofs.lemmas.Iterator.{YieldsList-from_slice}
+use Rattle.std.proofs.lemmas.Iterator.Search.{find_from_yields_List}
+use Rattle.std.specs.Option.{option_map}
 use Rattle.line.specs.Plan.{same_source}
-use Rattle.project.proofs.Firsts.{missed, found, spent}
+use Rattle.line.specs.declared.parts.Channel.{Channel}
+use Rattle.project.proofs.Firsts.{first-found}
+use Rattle.project.proofs.Wired.{told-source}
 use Rattle.project.proofs.wiring.end_of.Goals as goal
 
-pub returns-then-is_source : goal.returns-then-is_source
-returns-then-is_source c = found (λ k. same_source k.source c.args.x) (λ k. k.sink) _ _ _ c.loop-c.invariant c.loop-c-test.true (sym c.is_source.ensures ∙ c.if-is_source.true)
-
-pub loop-c-preserved : goal.loop-c-preserved
-loop-c-preserved c = missed (λ k. same_source k.source c.args.x) (λ k. k.sink) _ _ _ c.loop-c.invariant c.loop-c-test.true (sym c.is_source.ensures ∙ c.if-is_source.false)
-
 pub returns : goal.returns
-returns c = spent (λ k. same_source k.source c.args.x) (λ k. k.sink) _ _ c.loop-c.invariant c.loop-c-test.false
+returns c =
+    let test : Channel → Bool = λ k. same_source k.source c.args.x in
+    let a = find_from_yields_List test _ _ c.find.result c.find.ensures.ran (YieldsList-from_slice c.args.channels.now cc) (λ x b q k. told-source b x.now.source c.args.x (search (rules, tests))) in
+    let b : c.map.result ≡ option_map (λ k. k.sink) (option_map (λ k. k.now) c.find.result) = search rules in
+    b ∙ ap (option_map (λ k. k.sink)) a ∙ first-found test (λ k. k.sink) c.args.channels.now

@@ -1,4 +1,4 @@
-use Rattle.std.proofs.Common.{◌≡◌, sym, subst}
+use Rattle.std.proofs.Common.{sym, subst}
 use Rattle.line.specs.Plan.{Plan}
 use Rattle.line.specs.Rules.{Sized, Ranged}
 use Rattle.project.specs.Flawed.{FirstFlaw}

@@ -1,7 +1,0 @@
-use Rattle.std.proofs.Common.{arith}
-use Rattle.image.specs.Drafts.{plan_of}
-use Rattle.project.proofs.Found.{doubled}
-use Rattle.project.proofs.flaws.SharedSinkCondition.is_met.Goals as goal
-
-pub returns : goal.returns
-returns c = doubled (plan_of c.args.self.now.0.now) c.args.k _ _ _ _ c.as_slice-channels.ensures (omega arith) (omega arith) c.origin_of.ensures c.is_some.ensures
