@@ -3,6 +3,7 @@
 
 mod advance;
 mod arrive;
+mod candidate;
 mod closing;
 mod deadline;
 mod deliver;
@@ -19,6 +20,6 @@ pub mod rows;
 pub mod runtime;
 mod sending;
 mod start;
-mod start_fault;
+mod startable;
 pub mod state;
 mod taken;

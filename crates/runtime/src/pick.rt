@@ -6,7 +6,6 @@ ghost use Rattle.runtime.specs.Keys.{before, key_of, lesser};
 ghost use Rattle.runtime.specs.Meant.{no_rows};
 ghost use Rattle.runtime.specs.Model.{Moves, state_over};
 
-use super::events::first_at;
 use super::limits::NOTHING;
 use super::state::Core;
 use fault::Fault;
@@ -36,11 +35,8 @@ impl Core {
     fn key(&self, actor: u8) -> Option<Key>
         ensures { result ≡ key_of (line self.now.project) (state_over self.now no_rows) actor }
     {
-        if let Some(_) = self.start_fault(actor as u64) {
-            return None;
-        }
-        let timestamp = first_at(self.events.as_slice(), actor as u64).unwrap_or(0);
-        Some((self.deadline_at(actor as u64, timestamp), timestamp, actor))
+        let start = self.startable(actor as u64).ok()?;
+        Some((start.deadline, start.timestamp, start.actor))
     }
 
     // The actor of the least key.

@@ -6,9 +6,9 @@ ghost use Rattle.runs.specs.State.{started};
 ghost use Rattle.runtime.specs.Meant.{no_rows};
 ghost use Rattle.runtime.specs.Model.{state_over};
 
+use super::candidate::Candidate;
 use super::outlets::{leading_events, leading_outputs};
 use super::state::Core;
-use super::taken::Taken;
 
 impl Core {
     // How many events wait, and how many outputs.
@@ -39,20 +39,24 @@ impl Core {
     {
         self.output_count() + self.outputs_aside
     }
+}
 
-    // The places for events that are held once a firing is stacked.
-    pub(crate) fn event_places_with(&self, firing: &Taken) -> u64
-        ensures { result ≡ event_places (plan self.now.project) (started (state_over self.now no_rows) firing.now.actor firing.now.timestamp) }
+impl Candidate<'_> {
+    // The places for events that are held once the firing is stacked.
+    pub(crate) fn event_places(&self) -> u64
+        ensures { result ≡ event_places (plan self.now.core.now.project) (started (state_over self.now.core.now no_rows) self.now.firing.actor self.now.firing.timestamp) }
     {
-        let left = firing.left_of(self.events.as_slice());
-        left + (leading_events(&self.project, firing.actor) + self.events_aside)
+        let core = self.core;
+        let left = self.firing.left_of(core.events.as_slice());
+        left + (leading_events(&core.project, self.firing.actor) + core.events_aside)
     }
 
     // The same for outputs.
-    pub(crate) fn output_places_with(&self, firing: &Taken) -> u64
-        ensures { result ≡ output_places (plan self.now.project) (started (state_over self.now no_rows) firing.now.actor firing.now.timestamp) }
+    pub(crate) fn output_places(&self) -> u64
+        ensures { result ≡ output_places (plan self.now.core.now.project) (started (state_over self.now.core.now no_rows) self.now.firing.actor self.now.firing.timestamp) }
     {
-        let outputs = self.output_count();
-        outputs + (leading_outputs(&self.project, firing.actor) + self.outputs_aside)
+        let core = self.core;
+        let outputs = core.output_count();
+        outputs + (leading_outputs(&core.project, self.firing.actor) + core.outputs_aside)
     }
 }

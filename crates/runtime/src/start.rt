@@ -6,7 +6,6 @@ ghost use Rattle.runtime.specs.Answers.{fired};
 ghost use Rattle.runtime.specs.Meant.{no_rows};
 ghost use Rattle.runtime.specs.Model.{Moves, Stacks, state_over};
 
-use super::events::first_at;
 use super::outlets::{leading_events, leading_outputs};
 use super::state::Core;
 use super::taken::Taken;
@@ -35,20 +34,11 @@ impl Core {
     pub(crate) fn start(&mut self, actor: u64) -> Result<Started, Fault>
         ensures { Moves self.old (Start actor) (fired result) self.new }
     {
-        if let Some(fault) = self.start_fault(actor) {
-            return Err(fault);
-        }
-        let timestamp = first_at(self.events.as_slice(), actor).unwrap_or(0);
-        let deadline = self.deadline_at(actor, timestamp);
-        let number = actor as u8;
+        let started = self.startable(actor)?;
         self.stack_firing(Taken {
-            actor: number,
-            timestamp,
+            actor: started.actor,
+            timestamp: started.timestamp,
         });
-        Ok(Started {
-            actor: number,
-            timestamp,
-            deadline,
-        })
+        Ok(started)
     }
 }

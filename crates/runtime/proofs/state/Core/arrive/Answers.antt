@@ -1,5 +1,6 @@
-use Rattle.std.proofs.Common.{◌<◌, length, Some, sym, refl, ◌∙◌, subst, ap₂, w32, rules}
+use Rattle.std.proofs.Common.{◌<◌, length, Some, sym, refl, ap, ◌∙◌, subst, ap₂, w32, rules}
 use Rattle.std.proofs.lemmas.Int.{to_z-of_z}
+use Rattle.std.specs.Result.{result_err}
 use Rattle.runs.specs.Lists.{put_all}
 use Rattle.runs.specs.State.{event_at, event_time, arrived}
 use Rattle.runs.specs.Calls.{arrive_verdict}
@@ -22,7 +23,7 @@ invariant_of-self c =
     let value = to_z-of_z w32 c.args.value c.ranges.value in
     let inside : c.args.sensor < length c.args.self.now.sensors = search rules in
     let sent = c.send_event.ensures ∙ ap₂ (λ k v. put_all event_time (event_at k c.args.timestamp (Some v)) (held c.args.self.now.events)) c.feed-sink.ensures value in
-    let free = sym c.arrive_fault.ensures ∙ c.in_default.is in
+    let free = sym c.takes_in.ensures ∙ ap result_err c.in_ok-takes_in.was in
     let l = line c.args.self.now.project in
     let safe = secure-arrived l was.project.sound (state_over was no_rows) x t c.args.value c.requires free was.secure in
     let same = arrived-state l was.clock was.taking was.sensors (held was.events) (bounded.held was.stack) (held was.outputs) no_rows x t c.args.value _ inside sent in
@@ -36,7 +37,7 @@ returns c =
     let value = to_z-of_z w32 c.args.value c.ranges.value in
     let inside : c.args.sensor < length c.args.self.now.sensors = search rules in
     let sent = c.send_event.ensures ∙ ap₂ (λ k v. put_all event_time (event_at k c.args.timestamp (Some v)) (held c.args.self.now.events)) c.feed-sink.ensures value in
-    let free = sym c.arrive_fault.ensures ∙ c.in_default.is in
+    let free = sym c.takes_in.ensures ∙ ap result_err c.in_ok-takes_in.was in
     record {
       outcome = λ m.
           let same = arrived-state (line was.project) was.clock was.taking was.sensors (held was.events) (bounded.held was.stack) (held was.outputs) m.rows x t c.args.value _ inside sent in
@@ -50,5 +51,5 @@ returns c =
 pub send_event-requires : goal.send_event-requires
 send_event-requires c =
     let was = c.args.self.now in
-    let free = sym c.arrive_fault.ensures ∙ c.in_default.is in
+    let free = sym c.takes_in.ensures ∙ ap result_err c.in_ok-takes_in.was in
     arrive_room (line was.project) (state_over was no_rows) c.args.sensor c.args.timestamp free
