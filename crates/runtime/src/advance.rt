@@ -14,7 +14,7 @@ use fault::{Fault, RunCause};
 impl Core {
     // No output is due before `clock`. The least timestamp of those that are refuses: the first output has it.
     fn none_due_before(&self, clock: u64) -> Result<(), Fault>
-        ensures { result_err result ≡ verdict (refuse Due (due_before clock (held self.now.outputs)) ∷ []) }
+        ensures { result_err result ≡ verdict (refuse Due (due_before clock (held self.now.outputs.waiting)) ∷ []) }
     {
         let Some(first) = self.outputs.first() else {
             return Ok(());

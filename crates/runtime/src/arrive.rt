@@ -11,9 +11,10 @@ ghost use Rattle.runtime.specs.Model.{Moves, state_over};
 
 use super::limits::EVENT_ROOM;
 use super::rows::SensorRow;
-use super::sending::send_event;
+use super::sent::Sent;
 use super::state::Core;
 use fault::{Fault, RunCause};
+use runs::records::Event;
 
 impl Core {
     // The row of a sensor of the project.
@@ -33,7 +34,7 @@ impl Core {
     {
         let row = self.sensor_row(sensor)?;
         row.admits(self.clock, timestamp)?;
-        if self.event_places() >= EVENT_ROOM {
+        if self.events.places() >= EVENT_ROOM {
             return Err(Fault::Run(RunCause::Full, EVENT_ROOM));
         }
         Ok(())
@@ -47,7 +48,7 @@ impl Core {
         self.takes_in(sensor, timestamp)?;
         self.sensors[sensor as usize].last = Some(timestamp);
         let sink = self.project.feed(sensor as u8);
-        send_event(&mut self.events, sink, timestamp, Some(value));
+        self.events.post(Event::at(sink, timestamp, Some(value)));
         Ok(())
     }
 }

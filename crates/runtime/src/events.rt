@@ -56,7 +56,7 @@ impl Candidate<'_> {
         ensures { result_err result ≡ verdict (take 1 (drop 3 (checks self.now))) }
     {
         let mut lowest = None;
-        let events = self.core.events.as_slice();
+        let events = self.core.events.waiting();
         for event in events {
             if self.reached_by(event) {
                 lowest = Some(lower(event.actor as u64, lowest));

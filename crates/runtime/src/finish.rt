@@ -4,12 +4,12 @@ ghost use Rattle.project.specs.Project.{plan};
 ghost use Rattle.runs.specs.State.{shown, wired};
 ghost use Rattle.runtime.specs.Model.{Unstacks, stacked};
 
-use super::outlets::{leading_events, leading_outputs};
+use super::outlets::leading;
 use super::sending::send_all;
 use super::state::Core;
 use line::parts::Sink;
 use project::project::Project;
-use runs::records::{Firing, Running};
+use runs::records::{Event, Firing, Output, Running};
 
 // A value, absent where no channel leaves.
 fn wired(sink: Option<Sink>, value: Option<i32>) -> Option<i32>
@@ -54,9 +54,11 @@ impl Core {
             inlets,
             outlets,
         };
+        let events = leading::<Event>(&self.project, top.actor);
+        let outputs = leading::<Output>(&self.project, top.actor);
         let _ = self.stack.pop();
-        self.events_aside -= leading_events(&self.project, top.actor);
-        self.outputs_aside -= leading_outputs(&self.project, top.actor);
+        self.events.free(events);
+        self.outputs.free(outputs);
         send_all(&self.project, &firing, &mut self.events, &mut self.outputs);
         firing
     }

@@ -5,11 +5,11 @@ ghost use Rattle.project.specs.Project.{plan};
 ghost use Rattle.runtime.specs.Meant.{lateness_at, last_at};
 ghost use Rattle.runtime.specs.Model.{Begins};
 
+use super::room::Room;
 use super::rows::SensorRow;
 use super::state::Core;
 use bounded::Bounded;
 use project::project::Project;
-use queue::Queue;
 use runs::records::{Event, Output, Running};
 
 // Stands in for a sensor that is not there.
@@ -66,11 +66,9 @@ impl Core {
             project,
             clock: 0,
             taking: true,
-            events: Queue::new(event),
+            events: Room::new(event),
             stack: Bounded::new(firing),
-            outputs: Queue::new(output),
-            events_aside: 0,
-            outputs_aside: 0,
+            outputs: Room::new(output),
         }
     }
 }

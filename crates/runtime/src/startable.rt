@@ -66,7 +66,7 @@ impl Core {
         if actor >= self.project.actors().len() as u64 {
             return Err(Fault::Run(RunCause::NoSuch, actor));
         }
-        let timestamp = first_at(self.events.as_slice(), actor).ok_or(NOTHING)?;
+        let timestamp = first_at(self.events.waiting(), actor).ok_or(NOTHING)?;
         let firing = Taken {
             actor: actor as u8,
             timestamp,

@@ -16,14 +16,14 @@ use Rattle.runtime.proofs.candidate.Candidate.not_behind.Goals.{then-reached_by,
 
 pub reached_by-requires : goal.reached_by-requires
 reached_by-requires c =
-    let es = c.as_slice-events.result.now in
+    let es = c.waiting-events.result.now in
     let here = in-at es c.loop-event.event-index no_event c.loop-event-test.true in
     let was = c.args.self.now.core.now in
-    event-inside (line was.project) (state_over was no_rows) es (get_or es c.loop-event.event-index no_event) c.as_slice-events.ensures here was.secure
+    event-inside (line was.project) (state_over was no_rows) es (get_or es c.loop-event.event-index no_event) c.waiting-events.ensures here was.secure
 
 pub loop-event-preserved : goal.loop-event-preserved
 loop-event-preserved c =
-    let es = c.as_slice-events.result.now in
+    let es = c.waiting-events.result.now in
     let i = c.loop-event.event-index in
     let reach = could_reach (line c.args.self.now.core.now.project) c.args.self.now.firing.actor c.args.self.now.firing.timestamp in
     let e = get_or es i no_event in
@@ -37,13 +37,13 @@ loop-event-preserved c =
 pub returns-in-Some : goal.returns-in-Some
 returns-in-Some c =
     let reach = could_reach (line c.args.self.now.core.now.project) c.args.self.now.firing.actor c.args.self.now.firing.timestamp in
-    let all : Some c.in-Some.actor ≡ least event_actor (keep reach (held c.args.self.now.core.now.events)) =
+    let all : Some c.in-Some.actor ≡ least event_actor (keep reach (held c.args.self.now.core.now.events.waiting)) =
     sym c.in-Some.is ∙ c.loop-event.invariant ∙ ap (λ (es : List Event). least event_actor (keep reach es))
-    (take_all c.loop-event.event-index c.as_slice-events.result.now c.loop-event-test.false ∙ c.as_slice-events.ensures) in
+    (take_all c.loop-event.event-index c.waiting-events.result.now c.loop-event-test.false ∙ c.waiting-events.ensures) in
     ap (λ v. first_met Behind v None) all
 
 pub returns-in-None : goal.returns-in-None
 returns-in-None c =
     let reach = could_reach (line c.args.self.now.core.now.project) c.args.self.now.firing.actor c.args.self.now.firing.timestamp in
     ap (λ v. first_met Behind v None) (sym c.in-None.is ∙ c.loop-event.invariant ∙ ap (λ (es : List Event). least event_actor (keep reach es))
-    (take_all c.loop-event.event-index c.as_slice-events.result.now c.loop-event-test.false ∙ c.as_slice-events.ensures))
+    (take_all c.loop-event.event-index c.waiting-events.result.now c.loop-event-test.false ∙ c.waiting-events.ensures))

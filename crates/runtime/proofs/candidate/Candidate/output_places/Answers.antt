@@ -7,7 +7,3 @@ use Rattle.runtime.proofs.candidate.Candidate.output_places.Goals as goal
 pub overflow_add-result : goal.overflow_add-result
 overflow_add-result c =
     let most = output_places-fit _ (state_over c.args.self.now.core.now no_rows) c.args.self.now.core.now.secure in omega arith
-
-pub overflow_add-result-2 : goal.overflow_add-result-2
-overflow_add-result-2 c =
-    let most = output_places-fit _ (state_over c.args.self.now.core.now no_rows) c.args.self.now.core.now.secure in omega arith

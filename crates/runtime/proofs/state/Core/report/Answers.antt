@@ -6,7 +6,7 @@ use Rattle.runtime.proofs.state.Core.report.Goals as goal
 
 pub returns : goal.returns
 returns c =
-    let events = c.event_count.ensures.count in
+    let events = c.count.ensures.count in
     let firings : c.len.result ≡ length (top_first (held c.args.self.now.stack)) = c.len.ensures.count ∙ sym (length-reverse _) in
-    let outputs = c.output_count.ensures.count in
+    let outputs = c.count-2.ensures.count in
     record { outcome = λ m. (cc, refl); project = refl; taking = refl }

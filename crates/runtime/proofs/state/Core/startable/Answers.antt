@@ -12,7 +12,7 @@ use Rattle.runtime.proofs.state.Core.startable.Goals as goal
 pub invariant_of-startable : goal.invariant_of-startable
 invariant_of-startable c =
     let was = c.args.self.now in
-    let first = ap (λ (es : List Event). least event_time (keep (at_actor c.args.actor) es)) (sym c.as_slice.ensures) ∙ sym c.first_at.ensures
+    let first = ap (λ (es : List Event). least event_time (keep (at_actor c.args.actor) es)) (sym c.waiting.ensures) ∙ sym c.first_at.ensures
     ∙ c.ok_or.ensures.ok_part ∙ ap result_ok c.in_ok-timestamp.was in
     record {
       inside = omega (arith, ap length c.actors.ensures);
