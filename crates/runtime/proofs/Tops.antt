@@ -4,7 +4,6 @@ use mathlib.Core.Logic.{∥∥₁_elim}
 use native.Mathlib.Bridge.{le_prop}
 use lib.ListN.{length-reverse}
 use Rattle.std.specs.List.{slice_get}
-use Rattle.std.proofs.lemmas.Bool.{le-leb, lt-leb}
 use Rattle.std.proofs.lemmas.List.{get_or-reverse}
 use Rattle.std.proofs.lemmas.Option.{slice_get-get_or}
 use Rattle.bounded.specs.Held.{final}
@@ -34,18 +33,10 @@ module _ (l : Line) (d : ℕ) where
   none-sooner [] e = refl
   none-sooner (g ∷ gs) e = let z : ◌≡◌ {A = ℕ} 0 1 = cc in absurd (omega arith)
 
-  top-sooner : (gs : List Running) (f : Running) → slice_get gs 0 ≡ Some f →
+  pub top-sooner : (gs : List Running) (f : Running) → slice_get gs 0 ≡ Some f →
       not_sooner l gs d ≡ when (leb (deadline_of l f) d) (deadline_of l f)
   top-sooner [] f e = let z : ◌≡◌ {A = ℕ} 0 1 = cc in absurd (omega arith)
   top-sooner (g ∷ gs) f e = let z : g ≡ f = cc in rw z refl
-
-  pub top-not-above : (gs : List Running) (f : Running) → slice_get gs 0 ≡ Some f → deadline_of l f ≤ d →
-      not_sooner l gs d ≡ Some (deadline_of l f)
-  top-not-above gs f e h = top-sooner gs f e ∙ ap (λ b. when b (deadline_of l f)) (le-leb (deadline_of l f) d h)
-
-  pub top-above : (gs : List Running) (f : Running) → slice_get gs 0 ≡ Some f → d < deadline_of l f →
-      not_sooner l gs d ≡ None
-  top-above gs f e h = top-sooner gs f e ∙ ap (λ b. when b (deadline_of l f)) (lt-leb (deadline_of l f) d h)
 
 top_in : (gs : List Running) (f : Running) → slice_get gs 0 ≡ Some f → In f gs
 top_in [] f e = let z : ◌≡◌ {A = ℕ} 0 1 = cc in absurd (omega arith)

@@ -21,7 +21,7 @@ impl Core {
     fn sensor_row(&self, sensor: u64) -> Result<SensorRow, Fault>
         ensures { result ≡ (if nat_lt sensor (length (plan self.now.project).sensors) then Ok (slice_index_or self.now.sensors sensor no_sensor) else Err (Fault.Run NoSuch sensor)) }
     {
-        if sensor < self.project.sensors() as u64 {
+        if sensor < u64::from(self.project.sensors()) {
             Ok(self.sensors[sensor as usize])
         } else {
             Err(Fault::Run(RunCause::NoSuch, sensor))

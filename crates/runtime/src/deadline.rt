@@ -1,13 +1,24 @@
-ghost use Rattle.std.specs.Prelude.{◌≡◌, ◌<◌, ◌≤◌, length, drop, take};
+ghost use Rattle.std.specs.Prelude.{◌≡◌, ◌<◌, ◌≤◌, [], ◌∷◌, length, drop, nat_le, take};
 ghost use Rattle.std.specs.Result.{result_err};
+ghost use Rattle.fault.specs.declared.RunCause.TheVariants.{NotSooner};
 ghost use Rattle.project.specs.Project.{line, plan};
-ghost use Rattle.runs.specs.Calls.{horizon, verdict};
+ghost use Rattle.runs.specs.Calls.{horizon, refuse, verdict, when};
 ghost use Rattle.runs.specs.State.{deadline_at};
 ghost use Rattle.runtime.specs.Candidates.{checks};
 
 use super::candidate::Candidate;
 use super::state::Core;
 use fault::{Fault, RunCause};
+
+// Refuses, at the limit, a deadline that is not below it.
+fn below(deadline: u64, limit: u64) -> Result<(), Fault>
+    ensures { result_err result ≡ verdict (refuse NotSooner (when (nat_le limit deadline) limit) ∷ []) }
+{
+    if limit <= deadline {
+        return Err(Fault::Run(RunCause::NotSooner, limit));
+    }
+    Ok(())
+}
 
 impl Core {
     // The deadline of a firing.
@@ -16,7 +27,7 @@ impl Core {
         requires in_time { timestamp ≤ horizon }
         ensures { result ≡ deadline_at (line self.now.project) actor timestamp }
     {
-        timestamp + self.project.deadline(actor as usize).unwrap_or(0)
+        timestamp + self.project.deadline(usize::from(actor)).unwrap_or(0)
     }
 }
 
@@ -36,9 +47,6 @@ impl Candidate<'_> {
             return Ok(());
         };
         let limit = self.core.deadline_at(top.actor, top.timestamp);
-        if limit <= self.deadline() {
-            return Err(Fault::Run(RunCause::NotSooner, limit));
-        }
-        Ok(())
+        below(self.deadline(), limit)
     }
 }

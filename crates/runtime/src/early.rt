@@ -30,7 +30,7 @@ impl Candidate<'_> {
         let wait = self
             .core
             .project
-            .wait(self.firing.actor as usize)
+            .wait(usize::from(self.firing.actor))
             .unwrap_or(0);
         passed(self.core.clock, self.firing.timestamp, wait)
     }

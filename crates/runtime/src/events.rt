@@ -23,7 +23,7 @@ pub(crate) fn first_at(events: &[Event], actor: u64) -> Option<u64>
 {
     let mut first = None;
     for event in events {
-        if event.actor as u64 == actor {
+        if u64::from(event.actor) == actor {
             first = Some(lower(event.timestamp, first));
         }
     }
@@ -47,7 +47,7 @@ impl Candidate<'_> {
         ensures { result ≡ could_reach (line self.now.core.now.project) self.now.firing.actor self.now.firing.timestamp event.now }
     {
         let project = &self.core.project;
-        let distance = project.distance(event.actor as usize, self.firing.actor as usize);
+        let distance = project.distance(usize::from(event.actor), usize::from(self.firing.actor));
         within(distance, event.timestamp, self.firing.timestamp)
     }
 
@@ -59,7 +59,7 @@ impl Candidate<'_> {
         let events = self.core.events.waiting();
         for event in events {
             if self.reached_by(event) {
-                lowest = Some(lower(event.actor as u64, lowest));
+                lowest = Some(lower(u64::from(event.actor), lowest));
             }
         }
         match lowest {

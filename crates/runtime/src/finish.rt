@@ -1,4 +1,4 @@
-ghost use Rattle.std.specs.Prelude.{◌≡◌, Some};
+ghost use Rattle.std.specs.Prelude.{◌≡◌, length, Some};
 ghost use Rattle.std.specs.List.{slice_get};
 ghost use Rattle.project.specs.Project.{plan};
 ghost use Rattle.runs.specs.State.{shown, wired};
@@ -34,6 +34,13 @@ fn shown(project: &Project, actor: u8, outlets: [Option<i32>; 4]) -> [Option<i32
 }
 
 impl Core {
+    // How many firings are stacked.
+    pub(crate) fn firings(&self) -> u64
+        ensures { result ≡ length (stacked self.now) }
+    {
+        self.stack.len() as u64
+    }
+
     // The firing on top of the stack.
     pub(crate) fn top(&self) -> Option<Running>
         ensures { result ≡ slice_get (stacked self.now) 0 }

@@ -12,7 +12,7 @@ fn wired_delay(project: &Project, actor: u8, outlet: u8) -> u64
     ensures value { result ≡ wired_delay (wire (plan project.now) actor outlet) (delay (plan project.now) actor outlet) }
 {
     match project.wire(actor, outlet) {
-        Some(_) => project.delay(actor as usize, outlet as usize) as u64,
+        Some(_) => u64::from(project.delay(usize::from(actor), usize::from(outlet))),
         None => 0,
     }
 }

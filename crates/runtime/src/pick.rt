@@ -16,7 +16,7 @@ type Key = (u64, u64, u8);
 fn before(x: Key, y: Key) -> bool
     ensures { result ≡ before x y }
 {
-    x.0 < y.0 || (x.0 == y.0 && (x.1 < y.1 || (x.1 == y.1 && x.2 < y.2)))
+    x < y
 }
 
 // The lesser of two keys that may be missing.
@@ -24,9 +24,8 @@ fn lesser(x: Option<Key>, y: Option<Key>) -> Option<Key>
     ensures { result ≡ lesser x y }
 {
     match (x, y) {
-        (Some(a), Some(b)) => { if before(b, a) { Some(b) } else { Some(a) } }
-        (Some(a), None) => Some(a),
-        (None, y) => y,
+        (Some(a), Some(b)) => Some(if before(b, a) { b } else { a }),
+        (x, y) => x.or(y),
     }
 }
 
@@ -35,7 +34,7 @@ impl Core {
     fn key(&self, actor: u8) -> Option<Key>
         ensures { result ≡ key_of (line self.now.project) (state_over self.now no_rows) actor }
     {
-        let start = self.startable(actor as u64).ok()?;
+        let start = self.startable(u64::from(actor)).ok()?;
         Some((start.deadline, start.timestamp, start.actor))
     }
 
@@ -45,6 +44,7 @@ impl Core {
     {
         let count = self.project.actors().len() as u8;
         let mut least = None;
+        // A loop: with `filter_map` and `min` the proof did not close, since the search came to its limits.
         for actor in 0..count {
             least = lesser(least, self.key(actor));
         }

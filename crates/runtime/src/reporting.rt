@@ -12,7 +12,7 @@ impl Core {
         Status {
             clock: self.clock,
             events: self.events.count(),
-            firings: self.stack.len() as u64,
+            firings: self.firings(),
             outputs: self.outputs.count(),
         }
     }

@@ -17,7 +17,7 @@ impl SensorRow {
     pub(crate) fn admits(&self, clock: u64, timestamp: u64) -> Result<(), Fault>
         ensures { result_err result ≡ verdict (refuse Window (when (not (nat_le timestamp clock && nat_le clock (timestamp + self.now.lateness))) clock) ∷ refuse Stale (not_above self.now.last timestamp) ∷ []) }
     {
-        if timestamp > clock || clock - timestamp > self.lateness as u64 {
+        if timestamp > clock || clock - timestamp > u64::from(self.lateness) {
             return Err(Fault::Run(RunCause::Window, clock));
         }
         match self.last {

@@ -28,9 +28,9 @@ fn send_from(
     ensures outputs_aside { outputs.new.aside ≡ outputs.old.aside }
 {
     let sink = project.wire(firing.actor, outlet);
-    let delay = project.delay(firing.actor as usize, outlet as usize) as u64;
+    let delay = u64::from(project.delay(usize::from(firing.actor), usize::from(outlet)));
     let timestamp = firing.timestamp + delay;
-    let value = firing.outlets[outlet as usize];
+    let value = firing.outlets[usize::from(outlet)];
     events.post(Event::at(sink, timestamp, value));
     outputs.post(Output::at(sink, timestamp, value));
 }

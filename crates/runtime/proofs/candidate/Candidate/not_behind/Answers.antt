@@ -1,4 +1,4 @@
-use Rattle.std.proofs.Common.{◌≡◌, List, get_or, Some, None, sym, ap, ◌∙◌}
+use Rattle.std.proofs.Common.{◌≡◌, List, get_or, Some, None, sym, ap, ap₂, ◌∙◌}
 use Rattle.std.proofs.lemmas.List.{take_all}
 use Rattle.fault.specs.declared.RunCause.TheVariants.{Behind}
 use Rattle.queue.specs.Held.{held}
@@ -28,7 +28,7 @@ loop-event-preserved c =
     let reach = could_reach (line c.args.self.now.core.now.project) c.args.self.now.firing.actor c.args.self.now.firing.timestamp in
     let e = get_or es i no_event in
     elim c.if-reached_by.branch [
-      | then-reached_by w ↦ w.lowest-is ∙ ap Some (w.lower.ensures ∙ ap (lower e.actor) c.loop-event.invariant)
+      | then-reached_by w ↦ w.lowest-is ∙ ap Some (w.lower.ensures ∙ ap₂ lower w.from.ensures c.loop-event.invariant)
           ∙ sym (least_more event_actor reach es i no_event c.loop-event-test.true (sym w.if-reached_by.ensures))
       | else-reached_by w ↦ w.lowest-is ∙ c.loop-event.invariant
           ∙ sym (least-same event_actor reach es i no_event c.loop-event-test.true (sym w.if-reached_by.ensures))
