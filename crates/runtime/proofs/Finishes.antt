@@ -1,7 +1,6 @@
 -- Unstacking the top: what was popped, the room for what it sends, and the state that it leaves.
-use Rattle.std.proofs.Common.{◌≡◌, ℕ, ◌+◌, ◌-◌, ◌<◌, ◌≤◌, Bool, List, [], ◌∷◌, ◌++◌, length, get_or, take, ℤ, Some, Option, sym, ap, ◌∙◌, subst, ap₂, arith}
+use Rattle.std.proofs.Common.{◌≡◌, ℕ, ◌+◌, ◌-◌, ◌<◌, ◌≤◌, Bool, List, [], ◌∷◌, ◌++◌, length, get_or, take, ℤ, Some, Option, sym, refl, ap, ◌∙◌, subst, ap₂, arith}
 use mathlib.Core.Logic.{∥∥₁_elim, ∥∥₁_prop}
-use native.Mathlib.Bridge.{le_prop}
 use Rattle.std.specs.List.{slice_get}
 use Rattle.std.proofs.lemmas.List.{take_more, take_all}
 use Rattle.bounded.specs.Held.{front}
@@ -12,7 +11,7 @@ use Rattle.runs.specs.Lists.{changed, put_all}
 use Rattle.banks.specs.Meaning.{Meaning}
 use Rattle.runs.specs.Calls.{Outcome, finish_after, finish_answer}
 use Rattle.runs.specs.Safe.{Secure}
-use Rattle.runs.specs.State.{State, aside, event_time, events_sent, firing_of, leading, output_time, outputs_sent, reacted, shown}
+use Rattle.runs.specs.State.{State, aside, to_actuator, to_inlet, event_time, events_sent, firing_of, leading, output_time, outputs_sent, reacted, shown}
 use Rattle.runs.specs.State.{unstacked}
 use Rattle.runs.specs.declared.records.Call.TheVariants.{Finish}
 use Rattle.runs.specs.declared.records.Answer.TheVariants.{Wrote}
@@ -20,10 +19,11 @@ use Rattle.runs.specs.declared.records.Event.{Event}
 use Rattle.runs.specs.declared.records.Firing.{Firing}
 use Rattle.runs.specs.declared.records.Output.{Output}
 use Rattle.runs.specs.declared.records.Running.{Running}
-use Rattle.runs.proofs.Secure.{secure-finish, secure-rows, sent-events-room, sent-outputs-room}
+use Rattle.runs.proofs.Secure.{secure-finish, secure-rows}
+use Rattle.runs.proofs.Lists.{length-put-all}
 use Rattle.runtime.specs.Meant.{no_rows, state_of, top_first}
 use Rattle.runtime.specs.declared.rows.SensorRow.{SensorRow}
-use Rattle.runtime.proofs.States.{pushed}
+use Rattle.runtime.proofs.States.{event_places-fit, output_places-fit, pushed}
 
 last_of : (fs : List Running) (f d : Running) → slice_get (top_first fs) 0 ≡ Some f → fs ≡ front fs ++ f ∷ []
 last_of [] f d e = let z : ◌≡◌ {A = ℕ} 0 1 = cc in absurd (omega arith)
@@ -69,12 +69,6 @@ module _ (l : Line) (c : ℕ) (b : Bool) (xs : List SensorRow) (es : List Event)
     stack : (state_of c b xs es fs os no_rows).stack ≡ f ∷ top_first (front fs)
     stack = popped fs f e
 
-    pub finish-events-room : length es + length (events_sent l.plan (written f g)) ≤ 128
-    finish-events-room = subst (λ (r : Firing). length es + length (events_sent l.plan r) ≤ 128) (sym written_is) (∥∥₁_elim sound le_prop (λ k. sent-events-room l k _ f _ o stack i))
-
-    pub finish-outputs-room : length os + length (outputs_sent l.plan (written f g)) ≤ 64
-    finish-outputs-room = subst (λ (r : Firing). length os + length (outputs_sent l.plan r) ≤ 64) (sym written_is) (∥∥₁_elim sound le_prop (λ k. sent-outputs-room l k _ f _ o stack i))
-
     pub secure-unstacked : (es' : List Event) (fs' : List Running) (os' : List Output) → fs' ≡ front fs →
         es' ≡ put_all event_time (events_sent l.plan (written f g)) es →
         os' ≡ put_all output_time (outputs_sent l.plan (written f g)) os →
@@ -84,6 +78,22 @@ module _ (l : Line) (c : ℕ) (b : Bool) (xs : List SensorRow) (es : List Event)
         let safe = ∥∥₁_elim sound ∥∥₁_prop (λ k. secure-finish l k s f (top_first (front fs)) (record { row = []; outlets = o }) stack i) in
         let same = unstacked-state es' fs' os' no_rows [] p q ∙ ap (λ hs. unstacked l s f (top_first hs) (record { row = []; outlets = o })) r in
         secure-rows l (state_of c b xs es' fs' os' (changed no_rows f.actor [])) no_rows (subst (Secure l) (sym same) safe)
+
+    -- what is sent finds room beside the places that the other firings keep
+    module _ (es' : List Event) (os' : List Output)
+        (p : es' ≡ put_all event_time (events_sent l.plan (written f g)) es)
+        (q : os' ≡ put_all output_time (outputs_sent l.plan (written f g)) os) where
+      pub finish-events-room : length es + length (events_sent l.plan (written f g)) + aside to_inlet l.plan (top_first (front fs)) ≤ 128
+      finish-events-room =
+          let fit = event_places-fit l (state_of c b xs es' (front fs) os' no_rows) (secure-unstacked es' (front fs) os' refl p q) in
+          let size = ap length p ∙ length-put-all event_time (events_sent l.plan (written f g)) es in
+          omega arith
+
+      pub finish-outputs-room : length os + length (outputs_sent l.plan (written f g)) + aside to_actuator l.plan (top_first (front fs)) ≤ 64
+      finish-outputs-room =
+          let fit = output_places-fit l (state_of c b xs es' (front fs) os' no_rows) (secure-unstacked es' (front fs) os' refl p q) in
+          let size = ap length q ∙ length-put-all output_time (outputs_sent l.plan (written f g)) os in
+          omega arith
 
 -- what the bank gave and what was unstacked make a finish
 pub finish-outcome : (l : Line) (m : Meaning) (s z : State) (f : Running) (fs : List Running) (g : List (Option ℤ)) (r : Firing) →

@@ -3,6 +3,7 @@ pub mod States
 pub mod Waiting
 pub mod Leasts
 pub mod Bounds
+pub mod Checks
 pub mod Tops
 pub mod Picks
 pub mod Posts

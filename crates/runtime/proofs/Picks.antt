@@ -1,12 +1,17 @@
 -- The least key is the pick.
-use Rattle.std.proofs.Common.{◌≡◌, ℕ, zero, suc, ◌<◌, Bool, true, false, cond, length, Some, None, Option, sym, refl, ap, ◌∙◌, subst, inl, inr, arith}
+use Rattle.std.proofs.Common.{◌≡◌, ℕ, zero, suc, ◌<◌, Bool, true, false, cond, length, Some, None, Option, Result, Ok, Err, sym, refl, ap, ◌∙◌, subst, inl, inr, arith}
 use Rattle.std.proofs.lemmas.Bool.{cases_eq, cases_lt, ltb-true, not-false}
 use Rattle.std.proofs.lemmas.Bool.Decides.{nat_tests}
+use Rattle.std.specs.Result.{result_ok}
 use Rattle.fault.specs.declared.Fault.{Fault}
 use Rattle.line.specs.Times.{Line}
-use Rattle.runs.specs.Calls.{start_checks, start_verdict, time_at, Startable, First, Picked}
+use Rattle.runs.specs.Calls.{answer, start_checks, start_verdict, time_at, Startable, First, Picked}
 use Rattle.runs.specs.State.{State, deadline_at}
 use Rattle.runs.proofs.Accepted.{none-some, passes, unmet}
+use Rattle.runs.specs.declared.records.Started.{Started}
+use Rattle.runs.specs.declared.records.Answer.TheVariants.{Fired}
+use Rattle.runtime.specs.Answers.{fired}
+use Rattle.runtime.proofs.Checks.{refusal}
 use Rattle.runtime.specs.Keys.{Key, before, lesser, unless, key_of}
 
 -- the least of the first n keys
@@ -97,6 +102,12 @@ behind x y h = elim (cases_lt x.0 y.0) [
 key-some : (v : Option Fault) (k x : Key) → unless v k ≡ Some x → (v ≡ None) × (k ≡ x)
 key-some None k x e = (refl, cc)
 key-some (Some f) k x e = absurd (none-some x e)
+
+-- an actor that start refuses has no key
+pub keyless : (r : Result Started Fault) (v : Option Fault) (x : Started) (k : Key) → fired r ≡ answer v (Fired x) →
+    result_ok r ≡ None → unless v k ≡ None
+keyless (Ok y) v x k e n = absurd (none-some y (sym n))
+keyless (Err f) v x k e n = ap (λ v. unless v k) (refusal x v f e)
 
 module _ (l : Line) (s : State) where
   inside : (a : ℕ) → Startable l s a → a < length l.plan.actors

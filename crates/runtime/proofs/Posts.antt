@@ -29,8 +29,9 @@ module _ {A : Type 0} (f : A → ℕ) (g : ℕ → List A) (zs : List A) where
   sent-more o xs ys h e q = ap (put_all f (flat_map g (drop (o + 1) ports))) q ∙ sym (turn o xs h) ∙ e
 
   -- each outlet finds room where all together do
-  pub send-room : (n o : ℕ) (xs : List A) → o < 4 → SentSoFar o xs → length zs + length (flat_map g ports) ≤ n → length xs + length (g o) ≤ n
-  send-room n o xs h e r =
+  pub send-room : (n k o : ℕ) (xs : List A) → o < 4 → SentSoFar o xs → length zs + length (flat_map g ports) + k ≤ n →
+      length xs + length (g o) + k ≤ n
+  send-room n k o xs h e r =
       let before = length-put-all f (flat_map g ports) zs in
       let all = ap length (sym (turn o xs h) ∙ e) in
       let after = length-put-all f (flat_map g (drop (o + 1) ports)) (put_all f (g o) xs) in

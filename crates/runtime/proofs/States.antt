@@ -1,12 +1,12 @@
 -- States that are equal, and what the invariant of a runtime gives.
-use Rattle.std.proofs.Common.{◌≡◌, ℕ, ◌<◌, ◌≤◌, Bool, true, cond, not, ltb, List, [], ◌∷◌, ◌++◌, length, set, ℤ, Some, None, Option, refl, ap, ◌∙◌, subst, arith}
+use Rattle.std.proofs.Common.{◌≡◌, ℕ, ◌+◌, ◌<◌, ◌≤◌, Bool, true, false, cond, not, ltb, List, [], ◌∷◌, ◌++◌, length, set, ℤ, Some, None, Option, refl, ap, ◌∙◌, subst, arith}
 use mathlib.Core.Path.{fun_ext}
-use Rattle.std.proofs.lemmas.List.{reverse-append}
+use Rattle.std.proofs.lemmas.List.{length-reverse, reverse-append}
 use mathlib.Core.Logic.{∥∥₁_map, ∥∥₁_elim, ∥∥₁_prop}
 use native.Mathlib.Bridge.{le_prop}
-use Rattle.std.proofs.lemmas.Bool.{ltb-false}
+use Rattle.std.proofs.lemmas.Bool.{lt-ltb, ltb-false}
 use Rattle.line.specs.Times.{Line, Sound}
-use Rattle.runs.specs.State.{State, fresh, advanced, arrived, started, taken, four, value_for, output_time, event_time, event_at}
+use Rattle.runs.specs.State.{State, fresh, advanced, arrived, started, taken, four, value_for, output_time, event_time, event_at, to_inlet}
 use Rattle.runs.specs.Lists.{keep, put_all}
 use Rattle.line.specs.Plan.{feed}
 use Rattle.line.specs.Lists.{In}
@@ -21,6 +21,8 @@ use Rattle.banks.specs.Meaning.{Meaning}
 use Rattle.runs.specs.declared.records.Event.{Event}
 use Rattle.runs.specs.declared.records.Running.{Running}
 use Rattle.runs.specs.declared.records.Output.{Output}
+use Rattle.line.specs.declared.parts.Sink.{Sink}
+use Rattle.runs.proofs.Sending.{event-few}
 use Rattle.runs.proofs.Secure.{start-room}
 use Rattle.runtime.specs.declared.rows.SensorRow.{SensorRow}
 use Rattle.runtime.specs.Meant.{state_of, top_first, last_at, lateness_at, no_rows}
@@ -87,8 +89,16 @@ secure-arrived l sound s x t v live e i =
     ∥∥₁_elim sound ∥∥₁_prop (λ k. ∥∥₁_map i (safe-arrive l k s x t v live (arrives l s x t e)))
 
 -- an accepted arrival finds room
-pub arrive_room : (l : Line) (s : State) (x t : ℕ) → arrive_verdict l s x t ≡ None → length s.events < 128
-arrive_room l s x t free = let room = (arrives l s x t free).room in omega arith
+pub arrive_room : (l : Line) (s : State) (x t : ℕ) → arrive_verdict l s x t ≡ None → event_places l.plan s + 1 ≤ event_room
+arrive_room l s x t free = (arrives l s x t free).room
+
+-- a value makes one event at most
+pub one_event : (k : Option Sink) (t : ℕ) (v : Option ℤ) → length (event_at k t v) ≤ 1
+one_event k t v = let few = event-few k t v in go (to_inlet k) few
+  where
+    go : (b : Bool) → length (event_at k t v) ≤ cond b 1 0 → length (event_at k t v) ≤ 1
+    go true h = h
+    go false h = omega arith
 
 -- an event that waits is at an actor of the line
 pub event-inside : (l : Line) (s : State) (es : List Event) (e : Event) → es ≡ s.events → In e es → Secure l s →
@@ -103,21 +113,18 @@ first-in_time l s a t e i = ∥∥₁_elim i le_prop (λ h.
 
 -- a start -----------------------------------------------------------------------------
 
-pub chosen : {A : Type 0} (b : Bool) (x y z : A) → z ≡ cond b x y → b ≡ true → z ≡ x
-chosen b x y z e t = e ∙ ap (λ b. cond b x y) t
-
 pub pushed : (fs fs' : List Running) (f : Running) → fs' ≡ fs ++ f ∷ [] → top_first fs' ≡ f ∷ top_first fs
 pushed fs fs' f e = ap top_first e ∙ reverse-append fs (f ∷ [])
 
 pub started-state : (c : ℕ) (b : Bool) (xs : List SensorRow) (es : List Event) (fs : List Running) (os : List Output)
-    (w : ℕ → List ℤ) (a t : ℕ) (g : List (Option ℤ)) (es' : List Event) (fs' : List Running) →
-    es' ≡ keep (λ e. not (taken a t e)) es → fs' ≡ fs ++ record { actor = a; timestamp = t; inlets = g } ∷ [] →
+    (w : ℕ → List ℤ) (a t : ℕ) (g : List (Option ℤ)) (es' : List Event) (fs' : List Running) (os' : List Output) →
+    es' ≡ keep (λ e. not (taken a t e)) es → fs' ≡ fs ++ record { actor = a; timestamp = t; inlets = g } ∷ [] → os' ≡ os →
     g ≡ four (λ i. value_for i (keep (taken a t) es)) →
-    state_of c b xs es' fs' os w ≡ started (state_of c b xs es fs os w) a t
-started-state c b xs es fs os w a t g es' fs' e f h =
+    state_of c b xs es' fs' os' w ≡ started (state_of c b xs es fs os w) a t
+started-state c b xs es fs os w a t g es' fs' os' e f o h =
     let on : State → List Running → State = λ s gs. record
     { clock = s.clock; taking = s.taking; last = s.last; events = s.events; stack = gs; outputs = s.outputs; rows = s.rows } in
-    rw e (ap (on (started (state_of c b xs es fs os w) a t)) (pushed fs fs' _ f
+    rw (e, o) (ap (on (started (state_of c b xs es fs os w) a t)) (pushed fs fs' _ f
     ∙ ap (λ g. record { actor = a; timestamp = t; inlets = g } ∷ top_first fs) h))
 
 pub secure-started : (l : Line) → ∥ Sound l ∥₁ → (s : State) (a t : ℕ) → Startable l s a → t ≡ time_at s a → Secure l s →
@@ -127,3 +134,11 @@ secure-started l sound s a t e q i =
 
 pub stack-free : (l : Line) → ∥ Sound l ∥₁ → (s : State) (a : ℕ) → Startable l s a → Secure l s → length s.stack < 32
 stack-free l sound s a e i = ∥∥₁_elim sound le_prop (λ k. start-room l k s a e i)
+
+-- a firing that start accepts is pushed, since the stack has room
+pub stacked_on : (l : Line) → ∥ Sound l ∥₁ → (s : State) (a : ℕ) (fs fs' : List Running) (f : Running) (b : Bool) →
+    s.stack ≡ top_first fs → Startable l s a → Secure l s → b ≡ ltb (length fs) 32 → fs' ≡ cond b (fs ++ f ∷ []) fs →
+    fs' ≡ fs ++ f ∷ []
+stacked_on l sound s a fs fs' f b top e i test after =
+    let free : length fs < 32 = omega (arith, stack-free l sound s a e i, ap length top, length-reverse fs) in
+    after ∙ ap (λ b. cond b (fs ++ f ∷ []) fs) (test ∙ lt-ltb _ 32 free)

@@ -2,3 +2,4 @@ pub mod Meant
 pub mod Model
 pub mod Answers
 pub mod Keys
+pub mod Candidates

@@ -27,7 +27,7 @@ meaning m = record {
 
 -- all of a runtime but its bank, over the rows w
 abbrev pub state_over : Core → (ℕ → List ℤ) → State
-state_over c w = state_of c.clock c.taking c.sensors (queue.held c.events) (bounded.held c.stack) (queue.held c.outputs) w
+state_over c w = state_of c.clock c.taking c.sensors (queue.held c.events.waiting) (bounded.held c.stack) (queue.held c.outputs.waiting) w
 
 -- the stack, its top first
 abbrev pub stacked : Core → List Running

@@ -1,6 +1,8 @@
-ghost use Rattle.std.specs.Prelude.{◌≡◌};
+ghost use Rattle.std.specs.Prelude.{◌≡◌, [], ◌∷◌};
+ghost use Rattle.std.specs.Result.{result_err};
+ghost use Rattle.fault.specs.declared.RunCause.TheVariants.{Due};
 ghost use Rattle.queue.specs.Held.{held};
-ghost use Rattle.runs.specs.Calls.{due_before};
+ghost use Rattle.runs.specs.Calls.{due_before, refuse, verdict};
 ghost use Rattle.runs.specs.declared.records.Call.TheVariants.{Advance};
 ghost use Rattle.runtime.specs.Answers.{done};
 ghost use Rattle.runtime.specs.Model.{Moves};
@@ -10,16 +12,17 @@ use super::state::Core;
 use fault::{Fault, RunCause};
 
 impl Core {
-    // The least timestamp of the outputs that are due before `clock`: the first output has it.
-    fn due_before(&self, clock: u64) -> Option<u64>
-        ensures { result ≡ due_before clock (held self.now.outputs) }
+    // No output is due before `clock`. The least timestamp of those that are refuses: the first output has it.
+    fn none_due_before(&self, clock: u64) -> Result<(), Fault>
+        ensures { result_err result ≡ verdict (refuse Due (due_before clock (held self.now.outputs.waiting)) ∷ []) }
     {
-        let first = self.outputs.first()?;
+        let Some(first) = self.outputs.first() else {
+            return Ok(());
+        };
         if first.timestamp < clock {
-            Some(first.timestamp)
-        } else {
-            None
+            return Err(Fault::Run(RunCause::Due, first.timestamp));
         }
+        Ok(())
     }
 
     // Sets the clock, which neither goes back nor passes an output that waits.
@@ -32,9 +35,7 @@ impl Core {
         if clock > HORIZON {
             return Err(Fault::Run(RunCause::Horizon, HORIZON));
         }
-        if let Some(due) = self.due_before(clock) {
-            return Err(Fault::Run(RunCause::Due, due));
-        }
+        self.none_due_before(clock)?;
         self.clock = clock;
         Ok(())
     }

@@ -1,5 +1,7 @@
-ghost use Rattle.std.specs.Prelude.{◌≡◌, true, length, nat_lt, slice_index_or};
-ghost use Rattle.std.specs.Bool.{then_some};
+ghost use Rattle.std.specs.Prelude.{◌≡◌, true, length, Ok, Err, if◌then◌else◌, nat_lt, slice_index_or};
+ghost use Rattle.std.specs.Result.{result_err};
+ghost use Rattle.fault.specs.declared.Fault.{Fault};
+ghost use Rattle.fault.specs.declared.RunCause.TheVariants.{NoSuch};
 ghost use Rattle.project.specs.Project.{line, plan};
 ghost use Rattle.runs.specs.Calls.{arrive_verdict};
 ghost use Rattle.runs.specs.declared.records.Call.TheVariants.{Arrive};
@@ -9,39 +11,33 @@ ghost use Rattle.runtime.specs.Model.{Moves, state_over};
 
 use super::limits::EVENT_ROOM;
 use super::rows::SensorRow;
-use super::sending::send_event;
+use super::sent::Sent;
 use super::state::Core;
 use fault::{Fault, RunCause};
+use runs::records::Event;
 
 impl Core {
     // The row of a sensor of the project.
-    fn sensor_row(&self, sensor: u64) -> Option<SensorRow>
-        ensures { result ≡ then_some (nat_lt sensor (length (plan self.now.project).sensors)) (slice_index_or self.now.sensors sensor no_sensor) }
+    fn sensor_row(&self, sensor: u64) -> Result<SensorRow, Fault>
+        ensures { result ≡ (if nat_lt sensor (length (plan self.now.project).sensors) then Ok (slice_index_or self.now.sensors sensor no_sensor) else Err (Fault.Run NoSuch sensor)) }
     {
-        if sensor < self.project.sensors() as u64 {
-            Some(self.sensors[sensor as usize])
+        if sensor < u64::from(self.project.sensors()) {
+            Ok(self.sensors[sensor as usize])
         } else {
-            None
+            Err(Fault::Run(RunCause::NoSuch, sensor))
         }
     }
 
-    // Why an event of a sensor is refused, if it is.
-    fn arrive_fault(&self, sensor: u64, timestamp: u64) -> Option<Fault>
-        ensures { result ≡ arrive_verdict (line self.now.project) (state_over self.now no_rows) sensor timestamp }
+    // An event of a sensor comes in its window, above the last one, and finds room.
+    fn takes_in(&self, sensor: u64, timestamp: u64) -> Result<(), Fault>
+        ensures { result_err result ≡ arrive_verdict (line self.now.project) (state_over self.now no_rows) sensor timestamp }
     {
-        let Some(row) = self.sensor_row(sensor) else {
-            return Some(Fault::Run(RunCause::NoSuch, sensor));
-        };
-        if !row.admits(self.clock, timestamp) {
-            return Some(Fault::Run(RunCause::Window, self.clock));
+        let row = self.sensor_row(sensor)?;
+        row.admits(self.clock, timestamp)?;
+        if self.events.places() >= EVENT_ROOM {
+            return Err(Fault::Run(RunCause::Full, EVENT_ROOM));
         }
-        if let Some(last) = row.not_above(timestamp) {
-            return Some(Fault::Run(RunCause::Stale, last));
-        }
-        if self.event_places() >= EVENT_ROOM {
-            return Some(Fault::Run(RunCause::Full, EVENT_ROOM));
-        }
-        None
+        Ok(())
     }
 
     // Puts the event at the sensor's actor.
@@ -49,12 +45,10 @@ impl Core {
         requires { self.old.taking ≡ true }
         ensures { Moves self.old (Arrive sensor timestamp value) (done result) self.new }
     {
-        if let Some(fault) = self.arrive_fault(sensor, timestamp) {
-            return Err(fault);
-        }
+        self.takes_in(sensor, timestamp)?;
         self.sensors[sensor as usize].last = Some(timestamp);
         let sink = self.project.feed(sensor as u8);
-        send_event(&mut self.events, sink, timestamp, Some(value));
+        self.events.post(Event::at(sink, timestamp, Some(value)));
         Ok(())
     }
 }

@@ -1,35 +1,52 @@
-ghost use Rattle.std.specs.Prelude.{◌≡◌, ◌<◌, ◌≤◌, length, nat_le};
-ghost use Rattle.bounded.specs.Held.{held};
+ghost use Rattle.std.specs.Prelude.{◌≡◌, ◌<◌, ◌≤◌, [], ◌∷◌, length, drop, nat_le, take};
+ghost use Rattle.std.specs.Result.{result_err};
+ghost use Rattle.fault.specs.declared.RunCause.TheVariants.{NotSooner};
 ghost use Rattle.project.specs.Project.{line, plan};
-ghost use Rattle.runs.specs.Calls.{horizon, not_sooner, when};
+ghost use Rattle.runs.specs.Calls.{horizon, refuse, verdict, when};
 ghost use Rattle.runs.specs.State.{deadline_at};
-ghost use Rattle.runtime.specs.Meant.{top_first};
+ghost use Rattle.runtime.specs.Candidates.{checks};
 
+use super::candidate::Candidate;
 use super::state::Core;
+use fault::{Fault, RunCause};
 
-// A limit, where a deadline is not below it.
-fn not_below(deadline: u64, limit: u64) -> Option<u64>
-    ensures { result ≡ when (nat_le limit deadline) limit }
+// Refuses, at the limit, a deadline that is not below it.
+fn below(deadline: u64, limit: u64) -> Result<(), Fault>
+    ensures { result_err result ≡ verdict (refuse NotSooner (when (nat_le limit deadline) limit) ∷ []) }
 {
-    if limit <= deadline { Some(limit) } else { None }
+    if limit <= deadline {
+        return Err(Fault::Run(RunCause::NotSooner, limit));
+    }
+    Ok(())
 }
 
 impl Core {
     // The deadline of a firing.
-    pub(crate) fn deadline_at(&self, actor: u64, timestamp: u64) -> u64
+    fn deadline_at(&self, actor: u8, timestamp: u64) -> u64
         requires inside { actor < length (plan self.now.project).actors }
         requires in_time { timestamp ≤ horizon }
         ensures { result ≡ deadline_at (line self.now.project) actor timestamp }
     {
-        timestamp + self.project.deadline(actor as usize).unwrap_or(0)
+        timestamp + self.project.deadline(usize::from(actor)).unwrap_or(0)
+    }
+}
+
+impl Candidate<'_> {
+    pub(crate) fn deadline(&self) -> u64
+        ensures { result ≡ deadline_at (line self.now.core.now.project) self.now.firing.actor self.now.firing.timestamp }
+    {
+        self.core
+            .deadline_at(self.firing.actor, self.firing.timestamp)
     }
 
-    // The deadline of the top of the stack, where another is not below it.
-    pub(crate) fn not_sooner(&self, deadline: u64) -> Option<u64>
-        ensures { result ≡ not_sooner (line self.now.project) (top_first (held self.now.stack)) deadline }
+    // The deadline is below that of the top of the stack.
+    pub(crate) fn sooner_than_top(&self) -> Result<(), Fault>
+        ensures { result_err result ≡ verdict (take 1 (drop 4 (checks self.now))) }
     {
-        let top = self.stack.last()?;
-        let limit = self.deadline_at(top.actor as u64, top.timestamp);
-        not_below(deadline, limit)
+        let Some(top) = self.core.stack.last() else {
+            return Ok(());
+        };
+        let limit = self.core.deadline_at(top.actor, top.timestamp);
+        below(self.deadline(), limit)
     }
 }

@@ -1,36 +1,37 @@
-ghost use Rattle.std.specs.Prelude.{◌≡◌, ◌<◌, ◌≤◌, length, pos, ◌+ℤ◌, int_le};
-ghost use Rattle.project.specs.Project.{line, plan};
-ghost use Rattle.runs.specs.Calls.{early, horizon, natural, ready_at, when};
-ghost use Rattle.runtime.specs.Meant.{no_rows};
-ghost use Rattle.runtime.specs.Model.{state_over};
+ghost use Rattle.std.specs.Prelude.{◌≡◌, ◌≤◌, [], ◌∷◌, pos, ◌+ℤ◌, drop, int_le, take};
+ghost use Rattle.std.specs.Result.{result_err};
+ghost use Rattle.fault.specs.declared.RunCause.TheVariants.{Early};
+ghost use Rattle.runs.specs.Calls.{horizon, natural, refuse, verdict, when};
+ghost use Rattle.runtime.specs.Candidates.{checks};
 
-use super::state::Core;
+use super::candidate::Candidate;
+use fault::{Fault, RunCause};
 
-// Where a clock has not passed a timestamp and a wait, which may be below zero: the first clock that has.
-fn ready(clock: u64, timestamp: u64, wait: i64) -> Option<u64>
+// Refuses, at the first clock that has, where a clock has not passed a timestamp and a wait, which may be below zero.
+fn passed(clock: u64, timestamp: u64, wait: i64) -> Result<(), Fault>
     requires { timestamp ≤ horizon }
-    ensures { result ≡ when (int_le (pos clock) (pos timestamp +ℤ wait)) (natural ((pos timestamp +ℤ wait) +ℤ pos 1)) }
+    ensures { result_err result ≡ verdict (refuse Early (when (int_le (pos clock) (pos timestamp +ℤ wait)) (natural ((pos timestamp +ℤ wait) +ℤ pos 1))) ∷ []) }
 {
     let last = timestamp as i128 + wait as i128;
     if clock as i128 <= last {
-        Some((last + 1) as u64)
-    } else {
-        None
+        return Err(Fault::Run(RunCause::Early, (last + 1) as u64));
     }
+    Ok(())
 }
 
-impl Core {
-    // Where a sensor can still send the actor an event up to the timestamp: the first clock at which none can.
-    pub(crate) fn early(&self, actor: u64, timestamp: u64) -> Option<u64>
-        requires inside { actor < length (plan self.now.project).actors }
-        requires in_time { timestamp ≤ horizon }
-        ensures { result ≡ when (early (line self.now.project) (state_over self.now no_rows) actor timestamp) (natural (ready_at (line self.now.project) actor timestamp)) }
+impl Candidate<'_> {
+    // No sensor can still send the actor an event up to the timestamp.
+    pub(crate) fn not_early(&self) -> Result<(), Fault>
+        ensures { result_err result ≡ verdict (take 1 (drop 2 (checks self.now))) }
     {
-        let wait = self.project.wait(actor as usize).unwrap_or(0);
-        if self.taking {
-            ready(self.clock, timestamp, wait)
-        } else {
-            None
+        if !self.core.taking {
+            return Ok(());
         }
+        let wait = self
+            .core
+            .project
+            .wait(usize::from(self.firing.actor))
+            .unwrap_or(0);
+        passed(self.core.clock, self.firing.timestamp, wait)
     }
 }

@@ -1,23 +1,20 @@
-ghost use Rattle.std.specs.Prelude.{◌≡◌, ◌<◌, length};
-ghost use Rattle.queue.specs.Held.{held};
-ghost use Rattle.line.specs.Lists.{In};
+ghost use Rattle.std.specs.Prelude.{◌≡◌, ◌<◌, length, drop, take};
+ghost use Rattle.std.specs.Result.{result_err};
 ghost use Rattle.project.specs.Project.{line, plan};
-ghost use Rattle.runs.specs.Calls.{within, could_reach, event_actor};
+ghost use Rattle.runs.specs.Calls.{within, could_reach, verdict};
 ghost use Rattle.runs.specs.Lists.{keep, least, lower};
 ghost use Rattle.runs.specs.State.{at_actor, event_time};
+ghost use Rattle.runtime.specs.Candidates.{checks};
 
-use super::state::Core;
-use project::project::Project;
+use super::candidate::Candidate;
+use fault::{Fault, RunCause};
 use runs::records::Event;
 
 // The lower of a number and the least of those before it.
 fn lower(number: u64, before: Option<u64>) -> u64
     ensures { result ≡ lower number before }
 {
-    match before {
-        Some(other) if other < number => other,
-        _ => number,
-    }
+    before.map_or(number, |other| other.min(number))
 }
 
 // The least timestamp of the events that wait at an actor.
@@ -26,7 +23,7 @@ pub(crate) fn first_at(events: &[Event], actor: u64) -> Option<u64>
 {
     let mut first = None;
     for event in events {
-        if event.actor as u64 == actor {
+        if u64::from(event.actor) == actor {
             first = Some(lower(event.timestamp, first));
         }
     }
@@ -43,29 +40,31 @@ fn within(distance: Option<u64>, from: u64, to: u64) -> bool
     }
 }
 
-// Whether what an event leads to could still come to an actor by a timestamp.
-fn could_reach(project: &Project, event: &Event, actor: u64, timestamp: u64) -> bool
-    requires source { event.now.actor < length (plan project.now).actors }
-    requires target { actor < length (plan project.now).actors }
-    ensures { result ≡ could_reach (line project.now) actor timestamp event.now }
-{
-    let distance = project.distance(event.actor as usize, actor as usize);
-    within(distance, event.timestamp, timestamp)
-}
+impl Candidate<'_> {
+    // Whether what an event leads to could still come to the actor by the timestamp.
+    fn reached_by(&self, event: &Event) -> bool
+        requires { event.now.actor < length (plan self.now.core.now.project).actors }
+        ensures { result ≡ could_reach (line self.now.core.now.project) self.now.firing.actor self.now.firing.timestamp event.now }
+    {
+        let project = &self.core.project;
+        let distance = project.distance(usize::from(event.actor), usize::from(self.firing.actor));
+        within(distance, event.timestamp, self.firing.timestamp)
+    }
 
-impl Core {
-    // The lowest actor at which an event waits that could still come to `actor` by `timestamp`.
-    pub(crate) fn behind(&self, actor: u64, timestamp: u64) -> Option<u64>
-        requires { actor < length (plan self.now.project).actors }
-        ensures { result ≡ least event_actor (keep (could_reach (line self.now.project) actor timestamp) (held self.now.events)) }
+    // No event waits that could still come to the actor by the timestamp. The lowest actor of such an event refuses.
+    pub(crate) fn not_behind(&self) -> Result<(), Fault>
+        ensures { result_err result ≡ verdict (take 1 (drop 3 (checks self.now))) }
     {
         let mut lowest = None;
-        let events = self.events.as_slice();
+        let events = self.core.events.waiting();
         for event in events {
-            if could_reach(&self.project, event, actor, timestamp) {
-                lowest = Some(lower(event.actor as u64, lowest));
+            if self.reached_by(event) {
+                lowest = Some(lower(u64::from(event.actor), lowest));
             }
         }
-        lowest
+        match lowest {
+            Some(actor) => Err(Fault::Run(RunCause::Behind, actor)),
+            None => Ok(()),
+        }
     }
 }

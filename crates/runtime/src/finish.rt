@@ -1,15 +1,15 @@
-ghost use Rattle.std.specs.Prelude.{◌≡◌, Some};
+ghost use Rattle.std.specs.Prelude.{◌≡◌, length, Some};
 ghost use Rattle.std.specs.List.{slice_get};
 ghost use Rattle.project.specs.Project.{plan};
 ghost use Rattle.runs.specs.State.{shown, wired};
 ghost use Rattle.runtime.specs.Model.{Unstacks, stacked};
 
-use super::outlets::{leading_events, leading_outputs};
+use super::outlets::leading;
 use super::sending::send_all;
 use super::state::Core;
 use line::parts::Sink;
 use project::project::Project;
-use runs::records::{Firing, Running};
+use runs::records::{Event, Firing, Output, Running};
 
 // A value, absent where no channel leaves.
 fn wired(sink: Option<Sink>, value: Option<i32>) -> Option<i32>
@@ -34,6 +34,13 @@ fn shown(project: &Project, actor: u8, outlets: [Option<i32>; 4]) -> [Option<i32
 }
 
 impl Core {
+    // How many firings are stacked.
+    pub(crate) fn firings(&self) -> u64
+        ensures { result ≡ length (stacked self.now) }
+    {
+        self.stack.len() as u64
+    }
+
     // The firing on top of the stack.
     pub(crate) fn top(&self) -> Option<Running>
         ensures { result ≡ slice_get (stacked self.now) 0 }
@@ -54,9 +61,11 @@ impl Core {
             inlets,
             outlets,
         };
+        let events = leading::<Event>(&self.project, top.actor);
+        let outputs = leading::<Output>(&self.project, top.actor);
         let _ = self.stack.pop();
-        self.events_aside -= leading_events(&self.project, top.actor);
-        self.outputs_aside -= leading_outputs(&self.project, top.actor);
+        self.events.free(events);
+        self.outputs.free(outputs);
         send_all(&self.project, &firing, &mut self.events, &mut self.outputs);
         firing
     }

@@ -3,6 +3,7 @@
 
 mod advance;
 mod arrive;
+mod candidate;
 mod closing;
 mod deadline;
 mod deliver;
@@ -13,12 +14,14 @@ mod limits;
 mod opening;
 mod outlets;
 mod pick;
+mod places;
 mod reporting;
 mod room;
 pub mod rows;
 pub mod runtime;
 mod sending;
+mod sent;
 mod start;
-mod start_fault;
+mod startable;
 pub mod state;
 mod taken;

@@ -1,43 +1,26 @@
 ghost use Rattle.std.specs.Prelude.{◌≡◌, ℕ, List, ℤ, None};
-ghost use Rattle.std.specs.Option.{unwrap_or};
 ghost use Rattle.line.specs.Plan.{lateness};
 ghost use Rattle.project.specs.Project.{plan};
 ghost use Rattle.runtime.specs.Meant.{lateness_at, last_at};
 ghost use Rattle.runtime.specs.Model.{Begins};
 
+use super::room::Room;
 use super::rows::SensorRow;
 use super::state::Core;
 use bounded::Bounded;
 use project::project::Project;
-use queue::Queue;
 use runs::records::{Event, Output, Running};
+use std::array;
 
-// Stands in for a sensor that is not there.
-const NO_SENSOR: SensorRow = SensorRow {
-    lateness: 0,
-    last: Option::None,
-};
-
-// The row of a sensor that has sent no event; a sensor that is not there has lateness 0.
-fn first_row(lateness: Option<u32>) -> SensorRow
-    ensures { result ≡ record { lateness = unwrap_or lateness 0; last = None } }
-{
-    SensorRow {
-        lateness: lateness.unwrap_or(0),
-        last: None,
-    }
-}
-
-// A row for each sensor of the project.
+// A row for each sensor of the project, none of which has sent an event; a sensor that is not there has lateness 0.
 fn sensor_rows(project: &Project) -> [SensorRow; 16]
     ensures known { (x : ℕ) → lateness_at result x ≡ lateness (plan project.now) x }
     ensures silent { (x : ℕ) → last_at result x ≡ None }
 {
-    let mut rows = [NO_SENSOR; 16];
-    for x in 0..16 {
-        rows[x] = first_row(project.lateness(x));
-    }
-    rows
+    array::from_fn(|sensor| SensorRow {
+        lateness: project.lateness(sensor).unwrap_or(0),
+        last: None,
+    })
 }
 
 impl Core {
@@ -66,11 +49,9 @@ impl Core {
             project,
             clock: 0,
             taking: true,
-            events: Queue::new(event),
+            events: Room::new(event),
             stack: Bounded::new(firing),
-            outputs: Queue::new(output),
-            events_aside: 0,
-            outputs_aside: 0,
+            outputs: Room::new(output),
         }
     }
 }

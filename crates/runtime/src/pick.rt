@@ -6,7 +6,6 @@ ghost use Rattle.runtime.specs.Keys.{before, key_of, lesser};
 ghost use Rattle.runtime.specs.Meant.{no_rows};
 ghost use Rattle.runtime.specs.Model.{Moves, state_over};
 
-use super::events::first_at;
 use super::limits::NOTHING;
 use super::state::Core;
 use fault::Fault;
@@ -17,7 +16,7 @@ type Key = (u64, u64, u8);
 fn before(x: Key, y: Key) -> bool
     ensures { result ≡ before x y }
 {
-    x.0 < y.0 || (x.0 == y.0 && (x.1 < y.1 || (x.1 == y.1 && x.2 < y.2)))
+    x < y
 }
 
 // The lesser of two keys that may be missing.
@@ -25,9 +24,8 @@ fn lesser(x: Option<Key>, y: Option<Key>) -> Option<Key>
     ensures { result ≡ lesser x y }
 {
     match (x, y) {
-        (Some(a), Some(b)) => { if before(b, a) { Some(b) } else { Some(a) } }
-        (Some(a), None) => Some(a),
-        (None, y) => y,
+        (Some(a), Some(b)) => Some(if before(b, a) { b } else { a }),
+        (x, y) => x.or(y),
     }
 }
 
@@ -36,11 +34,8 @@ impl Core {
     fn key(&self, actor: u8) -> Option<Key>
         ensures { result ≡ key_of (line self.now.project) (state_over self.now no_rows) actor }
     {
-        if let Some(_) = self.start_fault(actor as u64) {
-            return None;
-        }
-        let timestamp = first_at(self.events.as_slice(), actor as u64).unwrap_or(0);
-        Some((self.deadline_at(actor as u64, timestamp), timestamp, actor))
+        let start = self.startable(u64::from(actor)).ok()?;
+        Some((start.deadline, start.timestamp, start.actor))
     }
 
     // The actor of the least key.
@@ -49,6 +44,7 @@ impl Core {
     {
         let count = self.project.actors().len() as u8;
         let mut least = None;
+        // A loop: with `filter_map` and `min` the proof did not close, since the search came to its limits.
         for actor in 0..count {
             least = lesser(least, self.key(actor));
         }

@@ -11,9 +11,9 @@ impl Core {
     {
         Status {
             clock: self.clock,
-            events: self.event_count(),
-            firings: self.stack.len() as u64,
-            outputs: self.output_count(),
+            events: self.events.count(),
+            firings: self.firings(),
+            outputs: self.outputs.count(),
         }
     }
 }

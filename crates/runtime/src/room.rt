@@ -1,58 +1,105 @@
-ghost use Rattle.std.specs.Prelude.{◌≡◌, ◌≤◌, length};
+ghost use Rattle.std.specs.Prelude.{◌≡◌, ◌+◌, ◌≤◌, [], length, slice_get};
+ghost use Rattle.std.specs.Fn.{CalledAt};
+ghost use Rattle.std.specs.List.{remove};
+ghost use Rattle.std.specs.List.Retain.{IsFiltered};
 ghost use Rattle.queue.specs.Held.{held};
-ghost use Rattle.project.specs.Project.{plan};
-ghost use Rattle.runs.specs.Calls.{event_places, output_places};
-ghost use Rattle.runs.specs.State.{started};
-ghost use Rattle.runtime.specs.Meant.{no_rows};
-ghost use Rattle.runtime.specs.Model.{state_over};
+ghost use Rattle.runs.specs.Lists.{put_all};
+ghost use Rattle.runtime.specs.Meant.{listed};
 
-use super::outlets::{leading_events, leading_outputs};
-use super::state::Core;
-use super::taken::Taken;
+use queue::{Queue, Ranked};
 
-impl Core {
-    // How many events wait, and how many outputs.
-    pub(crate) fn event_count(&self) -> u64
-        ensures count { result ≡ length (held self.now.events) }
-        ensures few { result ≤ 128 }
+// Room for N records: for those that wait, and for those that the stacked firings will send, whose places are set aside.
+#[derive(Drop)]
+pub struct Room<T: Ranked, const N: usize> {
+    pub(crate) waiting: Queue<T, N>,
+    pub(crate) aside: u64,
+    ghost fits: { length (held waiting) + aside ≤ N },
+}
+
+impl<T: Ranked, const N: usize> Room<T, N> {
+    // Room where nothing waits: `filler` stands in its free places, and is never read.
+    pub(crate) fn new(filler: T) -> Self
+        ensures waiting { held result.waiting ≡ [] }
+        ensures aside { result.aside ≡ 0 }
     {
-        self.events.len() as u64
+        Room {
+            waiting: Queue::new(filler),
+            aside: 0,
+        }
     }
 
-    pub(crate) fn output_count(&self) -> u64
-        ensures count { result ≡ length (held self.now.outputs) }
-        ensures few { result ≤ 64 }
+    // The records that wait.
+    pub(crate) fn waiting(&self) -> &[T]
+        ensures { result.now ≡ held self.now.waiting }
     {
-        self.outputs.len() as u64
+        self.waiting.as_slice()
     }
 
-    // Places for events that are held: by those that wait, and by what the stacked firings will send.
-    pub(crate) fn event_places(&self) -> u64
-        ensures { result ≡ event_places (plan self.now.project) (state_over self.now no_rows) }
+    // How many wait.
+    pub(crate) fn count(&self) -> u64
+        ensures count { result ≡ length (held self.now.waiting) }
+        ensures fits { result ≤ N }
     {
-        self.event_count() + self.events_aside
+        self.waiting.len() as u64
     }
 
-    // The same for outputs.
-    pub(crate) fn output_places(&self) -> u64
-        ensures { result ≡ output_places (plan self.now.project) (state_over self.now no_rows) }
+    // How many places are held, by those that wait and for those that will be sent.
+    pub(crate) fn places(&self) -> u64
+        ensures count { result ≡ length (held self.now.waiting) + self.now.aside }
+        ensures fits { result ≤ N }
     {
-        self.output_count() + self.outputs_aside
+        self.count() + self.aside
     }
 
-    // The places for events that are held once a firing is stacked.
-    pub(crate) fn event_places_with(&self, firing: &Taken) -> u64
-        ensures { result ≡ event_places (plan self.now.project) (started (state_over self.now no_rows) firing.now.actor firing.now.timestamp) }
+    // Puts a record, if there is one, where its rank belongs.
+    pub(crate) fn post(&mut self, item: Option<T>)
+        requires { length (held self.old.waiting) + length (listed item) + self.old.aside ≤ N }
+        ensures waiting { held self.new.waiting ≡ put_all T.Ranked.order (listed item) (held self.old.waiting) }
+        ensures aside { self.new.aside ≡ self.old.aside }
     {
-        let left = firing.left_of(self.events.as_slice());
-        left + (leading_events(&self.project, firing.actor) + self.events_aside)
+        if let Some(item) = item {
+            let _ = self.waiting.insert(item);
+        }
     }
 
-    // The same for outputs.
-    pub(crate) fn output_places_with(&self, firing: &Taken) -> u64
-        ensures { result ≡ output_places (plan self.now.project) (started (state_over self.now no_rows) firing.now.actor firing.now.timestamp) }
+    // Sets places aside.
+    pub(crate) fn set_aside(&mut self, places: u64)
+        requires { length (held self.old.waiting) + (places + self.old.aside) ≤ N }
+        ensures waiting { held self.new.waiting ≡ held self.old.waiting }
+        ensures aside { self.new.aside ≡ places + self.old.aside }
     {
-        let outputs = self.output_count();
-        outputs + (leading_outputs(&self.project, firing.actor) + self.outputs_aside)
+        self.aside += places;
+    }
+
+    // Frees places that were set aside.
+    pub(crate) fn free(&mut self, places: u64)
+        requires { places ≤ self.old.aside }
+        ensures waiting { held self.new.waiting ≡ held self.old.waiting }
+        ensures aside { self.new.aside + places ≡ self.old.aside }
+    {
+        self.aside -= places;
+    }
+
+    pub(crate) fn first(&self) -> Option<T>
+        ensures { result ≡ slice_get (held self.now.waiting) 0 }
+    {
+        self.waiting.first()
+    }
+
+    pub(crate) fn take_first(&mut self) -> Option<T>
+        ensures answer { result ≡ slice_get (held self.old.waiting) 0 }
+        ensures after { held self.new.waiting ≡ remove (held self.old.waiting) 0 }
+        ensures aside { self.new.aside ≡ self.old.aside }
+    {
+        self.waiting.take_first()
+    }
+
+    // Keeps the records that `keep` answers true for, in their order.
+    pub(crate) fn retain<F: FnMut(&T) -> bool>(&mut self, keep: F)
+        requires { F.IsAlwaysCallable keep }
+        ensures waiting { IsFiltered (CalledAt F.FnMut) keep (held self.old.waiting) (held self.new.waiting) }
+        ensures aside { self.new.aside ≡ self.old.aside }
+    {
+        self.waiting.retain(keep);
     }
 }

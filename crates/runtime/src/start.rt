@@ -6,12 +6,11 @@ ghost use Rattle.runtime.specs.Answers.{fired};
 ghost use Rattle.runtime.specs.Meant.{no_rows};
 ghost use Rattle.runtime.specs.Model.{Moves, Stacks, state_over};
 
-use super::events::first_at;
-use super::outlets::{leading_events, leading_outputs};
+use super::outlets::leading;
 use super::state::Core;
 use super::taken::Taken;
 use fault::Fault;
-use runs::records::{Running, Started};
+use runs::records::{Event, Output, Running, Started};
 
 impl Core {
     // Takes the events of a firing that start accepts, stacks it, and sets places aside for what it will send.
@@ -20,35 +19,27 @@ impl Core {
         requires first { firing.timestamp ≡ time_at (state_over self.old no_rows) firing.actor }
         ensures { Stacks self.old firing.actor firing.timestamp self.new }
     {
-        let inlets = firing.inlets(self.events.as_slice());
-        self.events.drop_where(&firing);
+        let events = leading::<Event>(&self.project, firing.actor);
+        let outputs = leading::<Output>(&self.project, firing.actor);
+        let inlets = firing.take(&mut self.events);
         let _ = self.stack.push(Running {
             actor: firing.actor,
             timestamp: firing.timestamp,
             inlets,
         });
-        self.events_aside += leading_events(&self.project, firing.actor);
-        self.outputs_aside += leading_outputs(&self.project, firing.actor);
+        self.events.set_aside(events);
+        self.outputs.set_aside(outputs);
     }
 
     // Starts a firing of an actor, of all events of the least timestamp that waits there.
     pub(crate) fn start(&mut self, actor: u64) -> Result<Started, Fault>
         ensures { Moves self.old (Start actor) (fired result) self.new }
     {
-        if let Some(fault) = self.start_fault(actor) {
-            return Err(fault);
-        }
-        let timestamp = first_at(self.events.as_slice(), actor).unwrap_or(0);
-        let deadline = self.deadline_at(actor, timestamp);
-        let number = actor as u8;
+        let started = self.startable(actor)?;
         self.stack_firing(Taken {
-            actor: number,
-            timestamp,
+            actor: started.actor,
+            timestamp: started.timestamp,
         });
-        Ok(Started {
-            actor: number,
-            timestamp,
-            deadline,
-        })
+        Ok(started)
     }
 }

@@ -7,13 +7,13 @@ ghost use Rattle.runs.specs.Safe.{Secure};
 ghost use Rattle.runs.specs.State.{aside, to_inlet, to_actuator};
 ghost use Rattle.runtime.specs.Meant.{state_of, lateness_at, no_rows, top_first};
 
+use super::room::Room;
 use super::rows::SensorRow;
 use bounded::Bounded;
 use project::project::Project;
-use queue::Queue;
 use runs::records::{Event, Output, Running};
 
-// All of a runtime but its bank. The stack has its top last; what is set aside are the places for what the stacked
+// All of a runtime but its bank. The stack has its top last; the places that are set aside are those for what its
 // firings will send.
 #[derive(Drop)]
 pub struct Core {
@@ -21,13 +21,11 @@ pub struct Core {
     pub(crate) clock: u64,
     pub(crate) taking: bool,
     pub(crate) sensors: [SensorRow; 16],
-    pub(crate) events: Queue<Event, 128>,
+    pub(crate) events: Room<Event, 128>,
     pub(crate) stack: Bounded<Running, 32>,
-    pub(crate) outputs: Queue<Output, 64>,
-    pub(crate) events_aside: u64,
-    pub(crate) outputs_aside: u64,
-    ghost secure: { Secure (line project) (state_of clock taking sensors (queue.held events) (bounded.held stack) (queue.held outputs) no_rows) },
+    pub(crate) outputs: Room<Output, 64>,
+    ghost secure: { Secure (line project) (state_of clock taking sensors (queue.held events.waiting) (bounded.held stack) (queue.held outputs.waiting) no_rows) },
     ghost known: { (x : ℕ) → lateness_at sensors x ≡ lateness (plan project) x },
-    ghost inlets: { events_aside ≡ aside to_inlet (plan project) (top_first (bounded.held stack)) },
-    ghost actuators: { outputs_aside ≡ aside to_actuator (plan project) (top_first (bounded.held stack)) },
+    ghost inlets: { events.aside ≡ aside to_inlet (plan project) (top_first (bounded.held stack)) },
+    ghost actuators: { outputs.aside ≡ aside to_actuator (plan project) (top_first (bounded.held stack)) },
 }

@@ -1,8 +1,9 @@
 ghost use Rattle.std.specs.Prelude.{◌≡◌, ◌≤◌, not, ◌&&◌, length, ◌==◌};
+ghost use Rattle.queue.specs.Held.{held};
 ghost use Rattle.runs.specs.Lists.{keep};
 ghost use Rattle.runs.specs.State.{taken, value_for, four};
 
-use bounded::Select;
+use super::room::Room;
 use runs::records::Event;
 
 // The events that a start takes: those of its actor at its timestamp.
@@ -12,40 +13,33 @@ pub struct Taken {
     pub(crate) timestamp: u64,
 }
 
-impl Select<Event> for Taken {
-    ghost wanted = { λ s e. taken s.actor s.timestamp e };
-
-    fn wants(&self, event: &Event) -> bool {
+impl Taken {
+    fn takes(&self, event: &Event) -> bool
+        ensures { result ≡ taken self.now.actor self.now.timestamp event.now }
+    {
         event.actor == self.actor && event.timestamp == self.timestamp
     }
-}
 
-impl Taken {
     // How many events stay.
     pub(crate) fn left_of(&self, events: &[Event]) -> u64
         ensures value { result ≡ length (keep (λ e. not (taken self.now.actor self.now.timestamp e)) events.now) }
         ensures few { result ≤ length events.now }
     {
-        let mut left = 0;
-        for event in events {
-            if !self.wants(event) {
-                left += 1;
-            }
-        }
-        left
+        events.iter().filter(|event| !self.takes(event)).count() as u64
     }
 
     // Whether an event is taken, and for an inlet.
     fn serves(&self, event: &Event, inlet: u8) -> bool
         ensures { result ≡ (taken self.now.actor self.now.timestamp event.now && event.now.inlet == inlet) }
     {
-        self.wants(event) && event.inlet == inlet
+        self.takes(event) && event.inlet == inlet
     }
 
     // The value for an inlet.
     fn value_for(&self, events: &[Event], inlet: u8) -> Option<i32>
         ensures { result ≡ value_for inlet (keep (taken self.now.actor self.now.timestamp) events.now) }
     {
+        // A loop: with `find` and `map` the proof did not close, since no clause ties `find` to the list's first match.
         for event in events {
             if self.serves(event, inlet) {
                 return Some(event.value);
@@ -55,7 +49,7 @@ impl Taken {
     }
 
     // The values for all inlets.
-    pub(crate) fn inlets(&self, events: &[Event]) -> [Option<i32>; 4]
+    fn inlets(&self, events: &[Event]) -> [Option<i32>; 4]
         ensures { result ≡ four (λ i. value_for i (keep (taken self.now.actor self.now.timestamp) events.now)) }
     {
         [
@@ -64,5 +58,16 @@ impl Taken {
             self.value_for(events, 2),
             self.value_for(events, 3),
         ]
+    }
+
+    // Takes the events out of those that wait: the values for all inlets.
+    pub(crate) fn take(&self, events: &mut Room<Event, 128>) -> [Option<i32>; 4]
+        ensures inlets { result ≡ four (λ i. value_for i (keep (taken self.now.actor self.now.timestamp) (held events.old.waiting))) }
+        ensures waiting { held events.new.waiting ≡ keep (λ e. not (taken self.now.actor self.now.timestamp e)) (held events.old.waiting) }
+        ensures aside { events.new.aside ≡ events.old.aside }
+    {
+        let inlets = self.inlets(events.waiting());
+        events.retain(|event| !self.takes(event));
+        inlets
     }
 }

@@ -1,5 +1,6 @@
-use Rattle.std.proofs.Common.{◌<◌, length, Some, sym, refl, ◌∙◌, subst, ap₂, w32, rules}
+use Rattle.std.proofs.Common.{◌≡◌, ◌+◌, ◌<◌, ◌≤◌, length, Some, sym, refl, ap, ◌∙◌, subst, ap₂, w32, rules, arith, lit<}
 use Rattle.std.proofs.lemmas.Int.{to_z-of_z}
+use Rattle.std.specs.Result.{result_err}
 use Rattle.runs.specs.Lists.{put_all}
 use Rattle.runs.specs.State.{event_at, event_time, arrived}
 use Rattle.runs.specs.Calls.{arrive_verdict}
@@ -8,10 +9,10 @@ use Rattle.runs.specs.Safe.{Secure}
 use Rattle.bounded.specs.Held as bounded
 use Rattle.queue.specs.Held.{held}
 use Rattle.project.specs.Project.{line}
-use Rattle.runtime.specs.Meant.{no_rows}
+use Rattle.runtime.specs.Meant.{listed, no_rows}
 use Rattle.runtime.specs.Model.{state_over}
 use Rattle.runtime.proofs.Sensors.{same-lateness}
-use Rattle.runtime.proofs.States.{arrive_room, arrived-state, secure-arrived, accepted}
+use Rattle.runtime.proofs.States.{arrive_room, one_event, arrived-state, secure-arrived, accepted}
 use Rattle.runtime.proofs.state.Core.arrive.Goals as goal
 
 pub invariant_of-self : goal.invariant_of-self
@@ -21,12 +22,12 @@ invariant_of-self c =
     let t = c.args.timestamp in
     let value = to_z-of_z w32 c.args.value c.ranges.value in
     let inside : c.args.sensor < length c.args.self.now.sensors = search rules in
-    let sent = c.send_event.ensures ∙ ap₂ (λ k v. put_all event_time (event_at k c.args.timestamp (Some v)) (held c.args.self.now.events)) c.feed-sink.ensures value in
-    let free = sym c.arrive_fault.ensures ∙ c.in_default.is in
+    let sent = c.post.ensures.waiting ∙ ap (λ es. put_all event_time es (held c.args.self.now.events.waiting)) c.at.ensures ∙ ap₂ (λ k v. put_all event_time (event_at k c.args.timestamp (Some v)) (held c.args.self.now.events.waiting)) c.feed-sink.ensures value in
+    let free = sym c.takes_in.ensures ∙ ap result_err c.in_ok-takes_in.was in
     let l = line c.args.self.now.project in
     let safe = secure-arrived l was.project.sound (state_over was no_rows) x t c.args.value c.requires free was.secure in
-    let same = arrived-state l was.clock was.taking was.sensors (held was.events) (bounded.held was.stack) (held was.outputs) no_rows x t c.args.value _ inside sent in
-    record { secure = subst (Secure l) (sym same) safe; known = (λ k. same-lateness was.sensors x t inside k ∙ was.known k); inlets = was.inlets; actuators = was.actuators }
+    let same = arrived-state l was.clock was.taking was.sensors (held was.events.waiting) (bounded.held was.stack) (held was.outputs.waiting) no_rows x t c.args.value _ inside sent in
+    record { secure = subst (Secure l) (sym same) safe; known = (λ k. same-lateness was.sensors x t inside k ∙ was.known k); inlets = c.post.ensures.aside ∙ was.inlets; actuators = was.actuators }
 
 pub returns : goal.returns
 returns c =
@@ -35,11 +36,11 @@ returns c =
     let t = c.args.timestamp in
     let value = to_z-of_z w32 c.args.value c.ranges.value in
     let inside : c.args.sensor < length c.args.self.now.sensors = search rules in
-    let sent = c.send_event.ensures ∙ ap₂ (λ k v. put_all event_time (event_at k c.args.timestamp (Some v)) (held c.args.self.now.events)) c.feed-sink.ensures value in
-    let free = sym c.arrive_fault.ensures ∙ c.in_default.is in
+    let sent = c.post.ensures.waiting ∙ ap (λ es. put_all event_time es (held c.args.self.now.events.waiting)) c.at.ensures ∙ ap₂ (λ k v. put_all event_time (event_at k c.args.timestamp (Some v)) (held c.args.self.now.events.waiting)) c.feed-sink.ensures value in
+    let free = sym c.takes_in.ensures ∙ ap result_err c.in_ok-takes_in.was in
     record {
       outcome = λ m.
-          let same = arrived-state (line was.project) was.clock was.taking was.sensors (held was.events) (bounded.held was.stack) (held was.outputs) m.rows x t c.args.value _ inside sent in
+          let same = arrived-state (line was.project) was.clock was.taking was.sensors (held was.events.waiting) (bounded.held was.stack) (held was.outputs.waiting) m.rows x t c.args.value _ inside sent in
           let s = state_over was m.rows in
           let ends = accepted (arrive_verdict (line was.project) s x t) Done s (arrived (line was.project) s x t c.args.value) free in
           (c.requires, ends.0, same ∙ ends.1);
@@ -47,8 +48,15 @@ returns c =
       taking = refl;
     }
 
-pub send_event-requires : goal.send_event-requires
-send_event-requires c =
+pub post-requires : goal.post-requires
+post-requires c =
     let was = c.args.self.now in
-    let free = sym c.arrive_fault.ensures ∙ c.in_default.is in
-    arrive_room (line was.project) (state_over was no_rows) c.args.sensor c.args.timestamp free
+    let l = line was.project in
+    let free = sym c.takes_in.ensures ∙ ap result_err c.in_ok-takes_in.was in
+    let room = arrive_room l (state_over was no_rows) c.args.sensor c.args.timestamp free in
+    let value = to_z-of_z w32 c.args.value c.ranges.value in
+    let same : listed c.at.result ≡ event_at c.feed-sink.result c.args.timestamp (Some c.args.value) =
+    c.at.ensures ∙ ap (λ v. event_at c.feed-sink.result c.args.timestamp (Some v)) value in
+    let few = one_event c.feed-sink.result c.args.timestamp (Some c.args.value) in
+    let free : length (held c.args.self.now.events.waiting) + length (listed c.at.result) + c.args.self.now.events.aside ≤ 128 =
+    omega (arith, was.inlets, room, few, ap length same) in (lit< tt, free)

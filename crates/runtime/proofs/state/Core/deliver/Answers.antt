@@ -30,7 +30,7 @@ invariant_of-self c =
     let first = sym c.first.ensures ∙ c.in-Some.is in
     let out = delivers (state_over c.args.self.now no_rows) c.in-Some.first (handing was.clock c.in-Some.first) refl rise first
     c.if-self-first.false in
-    record { secure = rw c.take_first.ensures.after (secure-deliver _ _ _ _ out was.secure); known = was.known; inlets = was.inlets; actuators = was.actuators }
+    record { secure = rw c.take_first.ensures.after (secure-deliver _ _ _ _ out was.secure); known = was.known; inlets = was.inlets; actuators = c.take_first.ensures.aside ∙ was.actuators }
 
 pub returns : goal.returns
 returns c =

@@ -1,0 +1,49 @@
+use Rattle.std.proofs.Common.{◌≡◌, List, get_or, Some, None, sym, ap, ap₂, ◌∙◌}
+use Rattle.std.proofs.lemmas.List.{take_all}
+use Rattle.fault.specs.declared.RunCause.TheVariants.{Behind}
+use Rattle.queue.specs.Held.{held}
+use Rattle.project.specs.Project.{line}
+use Rattle.project.proofs.Wired.{in-at}
+use Rattle.runs.specs.Calls.{could_reach, event_actor, first_met}
+use Rattle.runs.specs.Lists.{keep, least, lower}
+use Rattle.runs.specs.declared.records.Event.{Event}
+use Rattle.runtime.specs.Meant.{no_rows}
+use Rattle.runtime.specs.Model.{state_over}
+use Rattle.runtime.proofs.Leasts.{least_more, least-same, no_event}
+use Rattle.runtime.proofs.States.{event-inside}
+use Rattle.runtime.proofs.candidate.Candidate.not_behind.Goals as goal
+use Rattle.runtime.proofs.candidate.Candidate.not_behind.Goals.{then-reached_by, else-reached_by}
+
+pub reached_by-requires : goal.reached_by-requires
+reached_by-requires c =
+    let es = c.waiting-events.result.now in
+    let here = in-at es c.loop-event.event-index no_event c.loop-event-test.true in
+    let was = c.args.self.now.core.now in
+    event-inside (line was.project) (state_over was no_rows) es (get_or es c.loop-event.event-index no_event) c.waiting-events.ensures here was.secure
+
+pub loop-event-preserved : goal.loop-event-preserved
+loop-event-preserved c =
+    let es = c.waiting-events.result.now in
+    let i = c.loop-event.event-index in
+    let reach = could_reach (line c.args.self.now.core.now.project) c.args.self.now.firing.actor c.args.self.now.firing.timestamp in
+    let e = get_or es i no_event in
+    elim c.if-reached_by.branch [
+      | then-reached_by w ↦ w.lowest-is ∙ ap Some (w.lower.ensures ∙ ap₂ lower w.from.ensures c.loop-event.invariant)
+          ∙ sym (least_more event_actor reach es i no_event c.loop-event-test.true (sym w.if-reached_by.ensures))
+      | else-reached_by w ↦ w.lowest-is ∙ c.loop-event.invariant
+          ∙ sym (least-same event_actor reach es i no_event c.loop-event-test.true (sym w.if-reached_by.ensures))
+    ]
+
+pub returns-in-Some : goal.returns-in-Some
+returns-in-Some c =
+    let reach = could_reach (line c.args.self.now.core.now.project) c.args.self.now.firing.actor c.args.self.now.firing.timestamp in
+    let all : Some c.in-Some.actor ≡ least event_actor (keep reach (held c.args.self.now.core.now.events.waiting)) =
+    sym c.in-Some.is ∙ c.loop-event.invariant ∙ ap (λ (es : List Event). least event_actor (keep reach es))
+    (take_all c.loop-event.event-index c.waiting-events.result.now c.loop-event-test.false ∙ c.waiting-events.ensures) in
+    ap (λ v. first_met Behind v None) all
+
+pub returns-in-None : goal.returns-in-None
+returns-in-None c =
+    let reach = could_reach (line c.args.self.now.core.now.project) c.args.self.now.firing.actor c.args.self.now.firing.timestamp in
+    ap (λ v. first_met Behind v None) (sym c.in-None.is ∙ c.loop-event.invariant ∙ ap (λ (es : List Event). least event_actor (keep reach es))
+    (take_all c.loop-event.event-index c.waiting-events.result.now c.loop-event-test.false ∙ c.waiting-events.ensures))

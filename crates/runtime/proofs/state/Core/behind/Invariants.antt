@@ -1,8 +1,0 @@
-use Rattle.std.proofs.Common.{◌≡◌, take}
-use Rattle.project.specs.Project.{line}
-use Rattle.runs.specs.Lists.{keep, least}
-use Rattle.runs.specs.Calls.{could_reach, event_actor}
-use Rattle.runtime.proofs.state.Core.behind.Given as goal
-
-abbrev pub invariant-loop-event : goal.invariant-loop-event
-invariant-loop-event l = l.lowest ≡ least event_actor (keep (could_reach (line l.self.project) l.actor l.timestamp) (take l.event-index l.events))

@@ -1,9 +1,0 @@
-use Rattle.std.proofs.Common.{arith}
-use Rattle.runtime.specs.Meant.{no_rows}
-use Rattle.runtime.specs.Model.{state_over}
-use Rattle.runtime.proofs.States.{event_places-fit}
-use Rattle.runtime.proofs.state.Core.event_places.Goals as goal
-
-pub overflow_add-result : goal.overflow_add-result
-overflow_add-result c =
-    let most = event_places-fit _ (state_over c.args.self.now no_rows) c.args.self.now.secure in omega arith
