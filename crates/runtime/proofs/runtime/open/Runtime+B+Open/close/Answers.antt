@@ -1,10 +1,10 @@
 use Rattle.std.proofs.Common.{refl, ap}
 use Rattle.runs.specs.State.{State}
 use Rattle.runtime.proofs.States.{no_bank}
-use Rattle.runtime.proofs.runtime.OpenRuntime.close.Goals as goal
+use Rattle.runtime.proofs.runtime.open.Runtime+B+Open.close.Goals as goal
 
 pub invariant_of-result : goal.invariant_of-result
-invariant_of-result g c = record { shut = ap (λ (s : State). s.taking) (c.close.ensures.state no_bank) }
+invariant_of-result g c = record { taking = ap (λ (s : State). s.taking) (c.close.ensures.state no_bank) }
 
 pub returns : goal.returns
 returns g c = record {

@@ -1,15 +1,17 @@
+// The calls of every phase.
 ghost use Rattle.std.specs.Prelude.{◌≡◌, false, is_ok};
 ghost use Rattle.runs.specs.declared.records.Call.TheVariants.{Advance, Pick, Start, Finish, Deliver, Report};
 ghost use Rattle.runs.specs.declared.records.Answer.TheVariants.{Told};
 ghost use Rattle.runtime.specs.Answers.{done, fired, handed, named, wrote};
 ghost use Rattle.runtime.specs.Model.{Does, Performs};
 
-use super::{ClosedRuntime, Inner};
+use super::phase::Phase;
+use super::{Inner, Runtime};
 use banks::bank::Bank;
 use fault::Fault;
 use runs::records::{Delivered, Firing, Started, Status};
 
-impl<B: Bank> ClosedRuntime<B> {
+impl<B: Bank, S: Phase> Runtime<B, S> {
     // The clock, and how many events wait, firings run and outputs wait.
     pub fn report(&self) -> Status
         ensures { Does B.Bank.means self.now.inner Report (Told result) self.now.inner }
@@ -58,8 +60,9 @@ impl<B: Bank> ClosedRuntime<B> {
     pub fn end(self) -> B
         ensures { result ≡ self.inner.bank }
     {
-        let ClosedRuntime {
+        let Runtime {
             inner: Inner { core: _, bank },
+            phase: _,
         } = self;
         bank
     }
