@@ -1,31 +1,6 @@
 // Runs of a line: lists of calls performed over a bank, with the journal of what each call answered.
 #![tactic(auto)]
 
-// The calls that open and closed runtimes share; none for the others.
-macro_rules! shared {
-    ($line:expr, $call:expr) => {
-        match $call {
-            Call::Advance(clock) => Some(done($line.advance(clock))),
-            Call::Pick => Some(named($line.pick())),
-            Call::Start(actor) => Some(fired($line.start(actor))),
-            Call::Finish => {
-                let mut firing = BLANK;
-                let result = $line.finish(&mut firing);
-                Some(wrote(result, firing))
-            }
-            Call::Deliver => Some(handed($line.deliver())),
-            Call::Report => Some(Answer::Told($line.report())),
-            Call::Arrive {
-                sensor: _,
-                timestamp: _,
-                value: _,
-            } => None,
-            Call::Close => None,
-        }
-    };
-}
-
-mod answers;
 mod asking;
 mod comparing;
 mod performing;

@@ -3,7 +3,7 @@ ghost use Rattle.runs.specs.declared.records.Call.TheVariants.{Close};
 ghost use Rattle.simulation.specs.Calls.{existing, when_closed};
 ghost use Rattle.simulation.specs.Journals.{Worked, called, closing};
 
-use super::asking::{ask_closed, ask_open};
+use super::asking::{ask, ask_open};
 use banks::bank::Bank;
 use runs::records::{Answer, Call, Step};
 use runtime::runtime::{ClosedRuntime, OpenRuntime};
@@ -44,7 +44,7 @@ pub(crate) fn work_closed<B: Bank>(
         answer: Answer::Done,
     })?;
     for call in calls {
-        if let Some(answer) = ask_closed(line, *call) {
+        if let Some(answer) = ask(line, *call) {
             journal.push(Step {
                 call: *call,
                 answer,

@@ -10,7 +10,7 @@ returns-in-Ok g c =
     let j = c.close-line.result.inner in
     let line = c.work_closed-worked.new.line in
     let done = c.in-Ok.ensures in
-    let shut = sym (ap not line.shut) in
+    let shut = sym (ap not line.taking) in
     worked-ended means i h line.inner _ _ c.end-bank.result
     (closed-worked means i h j line.inner _ c.close-line.ensures done.worked) done.calls
     (tells means line.inner _ c.end-bank.result shut c.report-status.ensures c.end-bank.ensures) c.end-bank.ensures

@@ -16,7 +16,7 @@ loop-call-preserved g c =
     let calls = c.args.calls.now in
     let i = c.loop-call.call-index in
     let k = vec_items c.loop-call.journal in
-    elim c.match-ask_closed.branch [
+    elim c.match-ask.branch [
       | in-Some+in_ok-push-2 w ↦
           let h = w.in-Some.ensures in
           let e = ap vec_items w.journal-is ∙ w.in_ok-push-2.ensures.items in (
