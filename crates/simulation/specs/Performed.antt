@@ -28,15 +28,3 @@ pub record Ran (l : Line) (m : Meaning) (cs : List Call) (r : Run) (n : Meaning)
   pub calls : called (vec_items r.journal) ≡ existing cs
   pub tells : Tells last r n
   pub reaction : n.reaction ≡ m.reaction
-
--- the run r, whose journal was h when the runtime was i: where h is a run to i, r is one with the calls cs
-pub record Ended {B : Type 0} (means : B → Meaning) (i : Inner B) (h : Journal) (cs : List Call) (r : Run) (b : B) : Type 0 where
-  pub last : State
-  pub runs : (m : Meaning) → m.reaction ≡ (means i.bank).reaction → Runs (line i.core.project) m h (state means i) →
-      Runs (line i.core.project) m (vec_items r.journal) last
-  pub calls : called (vec_items r.journal) ≡ cs
-  pub tells : Tells last r (means b)
-  pub reaction : (means b).reaction ≡ (means i.bank).reaction
-
-abbrev pub Ends : {B : Type 0} → (B → Meaning) → Inner B → Journal → List Call → Performed B → Type 0
-Ends means i h cs r = IfOk r.run (λ run. Ended means i h cs run r.bank)

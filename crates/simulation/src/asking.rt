@@ -1,13 +1,14 @@
-ghost use Rattle.std.specs.Prelude.{◌≡◌, true, false, Ok, Err, Some, None};
+ghost use Rattle.std.specs.Prelude.{◌≡◌, Bool, true, false, not, refl, Ok, Err, Some, None};
 ghost use Rattle.runs.specs.declared.records.Answer.TheVariants.{Refused};
+ghost use Rattle.runs.specs.declared.records.Call.{Call};
 ghost use Rattle.runtime.specs.Model.{Performs};
 ghost use Rattle.simulation.specs.Calls.{for_open_only, is_close};
 
 use banks::bank::Bank;
 use fault::Fault;
 use runs::records::{Answer, Call, Firing};
-use runtime::runtime::phase::Phase;
-use runtime::runtime::{OpenRuntime, Runtime};
+use runtime::runtime::Runtime;
+use runtime::runtime::phase::{Closed, Open, Phase};
 
 // A firing that finish writes over.
 const BLANK: Firing = Firing {
@@ -28,9 +29,63 @@ fn answered<T, F: FnOnce(T) -> Answer>(returned: Result<T, Fault>, accepted: F) 
     }
 }
 
+// The phases of a runtime, each with the calls that it has.
+pub(crate) trait Asking: Phase {
+    // The calls that a runtime does not have in it.
+    ghost lacks: { Call → Bool };
+
+    // Whether no more events come in.
+    const CLOSED: bool;
+
+    ghost CLOSED: { Bool };
+
+    // Makes a call; none where the phase lacks it.
+    fn ask<B: Bank>(line: &mut Runtime<B, Self>, call: Call) -> Option<Answer>
+        ensures { elim result [ Some a ↦ (lacks call ≡ false) × Performs B.Bank.means line.old.inner call a line.new.inner | None ↦ (lacks call ≡ true) × (line.new ≡ line.old) ] };
+
+    ghost shut: { CLOSED ≡ not Self.taking };
+}
+
+// A close, which takes the runtime, is left to the caller.
+impl Asking for Open {
+    ghost lacks = { is_close };
+
+    const CLOSED: bool = false;
+
+    ghost CLOSED = { false };
+
+    ghost shut = { refl };
+
+    #[tactic(auto, using(runtime::proofs::Performs::performs))]
+    fn ask<B: Bank>(line: &mut Runtime<B, Open>, call: Call) -> Option<Answer> {
+        match call {
+            Call::Arrive {
+                sensor,
+                timestamp,
+                value,
+            } => Some(answered(line.arrive(sensor, timestamp, value), |()| Answer::Done)),
+            other => ask_any(line, other),
+        }
+    }
+}
+
+impl Asking for Closed {
+    ghost lacks = { for_open_only };
+
+    const CLOSED: bool = true;
+
+    ghost CLOSED = { true };
+
+    ghost shut = { refl };
+
+    fn ask<B: Bank>(line: &mut Runtime<B, Closed>, call: Call) -> Option<Answer> {
+        ask_any(line, call)
+    }
+}
+
 // Makes a call that the runtime has in every phase; none for the others.
 #[tactic(auto, using(runtime::proofs::Performs::performs))]
-pub(crate) fn ask<B: Bank, S: Phase>(line: &mut Runtime<B, S>, call: Call) -> Option<Answer>
+fn ask_any<B: Bank, S: Phase>(line: &mut Runtime<B, S>, call: Call) -> Option<Answer>
     ensures { elim result [ Some a ↦ (for_open_only call ≡ false) × Performs B.Bank.means line.old.inner call a line.new.inner | None ↦ (for_open_only call ≡ true) × (line.new ≡ line.old) ] }
 {
     match call {
@@ -45,20 +100,5 @@ pub(crate) fn ask<B: Bank, S: Phase>(line: &mut Runtime<B, S>, call: Call) -> Op
         Call::Deliver => Some(answered(line.deliver(), Answer::Handed)),
         Call::Report => Some(Answer::Told(line.report())),
         Call::Arrive { .. } | Call::Close => None,
-    }
-}
-
-// Makes a call on an open runtime; a close, which takes the runtime, is left to the caller.
-#[tactic(auto, using(runtime::proofs::Performs::performs))]
-pub(crate) fn ask_open<B: Bank>(line: &mut OpenRuntime<B>, call: Call) -> Option<Answer>
-    ensures { elim result [ Some a ↦ (is_close call ≡ false) × Performs B.Bank.means line.old.inner call a line.new.inner | None ↦ (is_close call ≡ true) × (line.new ≡ line.old) ] }
-{
-    match call {
-        Call::Arrive {
-            sensor,
-            timestamp,
-            value,
-        } => Some(answered(line.arrive(sensor, timestamp, value), |()| Answer::Done)),
-        other => ask(line, other),
     }
 }

@@ -3,6 +3,7 @@
 
 mod asking;
 mod comparing;
+mod parting;
 mod performing;
 mod run_state;
 mod working;
