@@ -1,12 +1,11 @@
 -- Journals that go on being runs.
-use Rattle.std.proofs.Common.{◌≡◌, ℕ, ◌+◌, ◌-◌, ◌<◌, Bool, true, false, cond, not, List, [], ◌∷◌, ◌++◌, length, get_or, take, drop, pos, sym, refl, ap, ◌∙◌, subst, append_assoc, arith, length-drop}
-use Rattle.std.proofs.lemmas.List.{drop_more, map-append, take_all}
+use Rattle.std.proofs.Common.{◌≡◌, ℕ, ◌+◌, ◌<◌, Bool, true, false, cond, not, List, [], ◌∷◌, ◌++◌, length, get_or, drop, pos, sym, refl, ap, ◌∙◌, subst, append_assoc}
+use Rattle.std.proofs.lemmas.List.{at_drop_more, map-append}
 use Rattle.line.specs.Plan.{Plan}
 use Rattle.line.specs.Times.{Line}
 use Rattle.banks.specs.Meaning.{Meaning}
 use Rattle.project.specs.Project.{line}
 use Rattle.project.specs.declared.project.Project.{Project}
-use Rattle.runs.specs.Lists.{keep}
 use Rattle.runs.specs.Calls.{Outcome, finish_after, finish_answer}
 use Rattle.runs.specs.Runs.{Journal, Runs, next}
 use Rattle.runs.specs.State.{State}
@@ -17,6 +16,7 @@ use Rattle.runs.specs.declared.records.Answer.{Answer}
 use Rattle.runs.specs.declared.records.Step.{Step}
 use Rattle.runtime.specs.Model.{Performs, state}
 use Rattle.runtime.specs.declared.runtime.Inner.{Inner}
+use Rattle.simulation.specs.Calls.{without}
 use Rattle.simulation.specs.Journals.{Worked, called}
 
 -- an outcome depends on the bank by its reaction alone
@@ -77,23 +77,20 @@ called_more k k' c a rest e =
 
 -- a loop over the calls that a runtime has
 module _ (lacks : Call → Bool) (cs : List Call) (i : ℕ) (d : Call) (h : i < length cs) where
-  abbrev pub had : List Call → List Call
-  had xs = keep (λ c. not (lacks c)) xs
-
   next-had : (b : Bool) → lacks (get_or cs i d) ≡ b →
-      had (drop i cs) ≡ cond (not b) (get_or cs i d ∷ had (drop (i + 1) cs)) (had (drop (i + 1) cs))
-  next-had b e = ap had (drop_more cs i d h)
-      ∙ ap (λ b. cond (not b) (get_or cs i d ∷ had (drop (i + 1) cs)) (had (drop (i + 1) cs))) e
+      without lacks (drop i cs) ≡ cond (not b) (get_or cs i d ∷ without lacks (drop (i + 1) cs)) (without lacks (drop (i + 1) cs))
+  next-had b e = at_drop_more (without lacks) cs i d h
+      ∙ ap (λ b. cond (not b) (get_or cs i d ∷ without lacks (drop (i + 1) cs)) (without lacks (drop (i + 1) cs))) e
 
   module _ (k : Journal) (all : List Call) where
     pub had-more : (k' : Journal) (a : Answer) → lacks (get_or cs i d) ≡ false →
-        k' ≡ k ++ record { call = get_or cs i d; answer = a } ∷ [] → called k ++ had (drop i cs) ≡ all →
-        called k' ++ had (drop (i + 1) cs) ≡ all
-    had-more k' a b e q = called_more k k' (get_or cs i d) a (had (drop (i + 1) cs)) e
+        k' ≡ k ++ record { call = get_or cs i d; answer = a } ∷ [] → called k ++ without lacks (drop i cs) ≡ all →
+        called k' ++ without lacks (drop (i + 1) cs) ≡ all
+    had-more k' a b e q = called_more k k' (get_or cs i d) a (without lacks (drop (i + 1) cs)) e
         ∙ ap (λ (xs : List Call). called k ++ xs) (sym (next-had false b)) ∙ q
 
-    pub had-less : lacks (get_or cs i d) ≡ true → called k ++ had (drop i cs) ≡ all →
-        called k ++ had (drop (i + 1) cs) ≡ all
+    pub had-less : lacks (get_or cs i d) ≡ true → called k ++ without lacks (drop i cs) ≡ all →
+        called k ++ without lacks (drop (i + 1) cs) ≡ all
     had-less b q = ap (λ (xs : List Call). called k ++ xs) (sym (next-had true b)) ∙ q
 
 -- what a loop reads past the end of the calls

@@ -1,18 +1,14 @@
 -- What performing a list of calls hands back.
-use Rattle.std.specs.Prelude.{◌≡◌, not, List, IfOk, vec_items}
+use Rattle.std.specs.Prelude.{◌≡◌, not, List, vec_items}
 use Rattle.line.specs.Times.{Line}
 use Rattle.banks.specs.Meaning.{Meaning}
 use Rattle.runs.specs.Calls.{status}
-use Rattle.project.specs.Project.{line}
-use Rattle.runs.specs.Runs.{Journal, Runs}
+use Rattle.runs.specs.Runs.{Runs}
 use Rattle.runs.specs.State.{State}
 use Rattle.runs.specs.declared.records.Call.{Call}
 use Rattle.simulation.specs.Calls.{existing}
 use Rattle.simulation.specs.Journals.{called}
-use Rattle.runtime.specs.Model.{state}
-use Rattle.runtime.specs.declared.runtime.Inner.{Inner}
 use Rattle.simulation.specs.declared.Run.{Run}
-use Rattle.simulation.specs.declared.Performed.{Performed}
 
 -- the run r tells the state s, over a bank that means n
 pub record Tells (s : State) (r : Run) (n : Meaning) : Type 0 where

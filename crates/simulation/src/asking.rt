@@ -1,8 +1,8 @@
-ghost use Rattle.std.specs.Prelude.{◌≡◌, Bool, true, false, not, refl, Ok, Err, Some, None};
+ghost use Rattle.std.specs.Prelude.{◌≡◌, Bool, true, false, not, refl, Ok, Err};
 ghost use Rattle.runs.specs.declared.records.Answer.TheVariants.{Refused};
 ghost use Rattle.runs.specs.declared.records.Call.{Call};
-ghost use Rattle.runtime.specs.Model.{Performs};
 ghost use Rattle.simulation.specs.Calls.{for_open_only, is_close};
+ghost use Rattle.simulation.specs.Journals.{Asked};
 
 use banks::bank::Bank;
 use fault::Fault;
@@ -29,9 +29,29 @@ fn answered<T, F: FnOnce(T) -> Answer>(returned: Result<T, Fault>, accepted: F) 
     }
 }
 
-// The phases of a runtime, each with the calls that it has.
+// Makes a call that a runtime has in every phase; none for the others.
+#[tactic(auto, using(runtime::proofs::Performs::performs))]
+fn ask_any<B: Bank, S: Phase>(line: &mut Runtime<B, S>, call: Call) -> Option<Answer>
+    ensures { Asked B.Bank.means (for_open_only call) line.old.inner call result line.new.inner }
+{
+    match call {
+        Call::Advance(clock) => Some(answered(line.advance(clock), |()| Answer::Done)),
+        Call::Pick => Some(answered(line.pick(), Answer::Named)),
+        Call::Start(actor) => Some(answered(line.start(actor), Answer::Fired)),
+        Call::Finish => {
+            let mut firing = BLANK;
+            let finished = line.finish(&mut firing);
+            Some(answered(finished, |()| Answer::Wrote(firing)))
+        }
+        Call::Deliver => Some(answered(line.deliver(), Answer::Handed)),
+        Call::Report => Some(Answer::Told(line.report())),
+        Call::Arrive { .. } | Call::Close => None,
+    }
+}
+
+// A phase of a runtime, with the calls that a runtime has in it.
 pub(crate) trait Asking: Phase {
-    // The calls that a runtime does not have in it.
+    // Those that it does not have.
     ghost lacks: { Call → Bool };
 
     // Whether no more events come in.
@@ -39,14 +59,15 @@ pub(crate) trait Asking: Phase {
 
     ghost CLOSED: { Bool };
 
-    // Makes a call; none where the phase lacks it.
+    // Makes a call; none where it is lacking.
     fn ask<B: Bank>(line: &mut Runtime<B, Self>, call: Call) -> Option<Answer>
-        ensures { elim result [ Some a ↦ (lacks call ≡ false) × Performs B.Bank.means line.old.inner call a line.new.inner | None ↦ (lacks call ≡ true) × (line.new ≡ line.old) ] };
+        ensures { Asked B.Bank.means (lacks call) line.old.inner call result line.new.inner };
 
+    // It is as the runtime has it.
     ghost shut: { CLOSED ≡ not Self.taking };
 }
 
-// A close, which takes the runtime, is left to the caller.
+// A close takes the runtime, and so is left to the caller.
 impl Asking for Open {
     ghost lacks = { is_close };
 
@@ -80,25 +101,5 @@ impl Asking for Closed {
 
     fn ask<B: Bank>(line: &mut Runtime<B, Closed>, call: Call) -> Option<Answer> {
         ask_any(line, call)
-    }
-}
-
-// Makes a call that the runtime has in every phase; none for the others.
-#[tactic(auto, using(runtime::proofs::Performs::performs))]
-fn ask_any<B: Bank, S: Phase>(line: &mut Runtime<B, S>, call: Call) -> Option<Answer>
-    ensures { elim result [ Some a ↦ (for_open_only call ≡ false) × Performs B.Bank.means line.old.inner call a line.new.inner | None ↦ (for_open_only call ≡ true) × (line.new ≡ line.old) ] }
-{
-    match call {
-        Call::Advance(clock) => Some(answered(line.advance(clock), |()| Answer::Done)),
-        Call::Pick => Some(answered(line.pick(), Answer::Named)),
-        Call::Start(actor) => Some(answered(line.start(actor), Answer::Fired)),
-        Call::Finish => {
-            let mut firing = BLANK;
-            let finished = line.finish(&mut firing);
-            Some(answered(finished, |()| Answer::Wrote(firing)))
-        }
-        Call::Deliver => Some(answered(line.deliver(), Answer::Handed)),
-        Call::Report => Some(Answer::Told(line.report())),
-        Call::Arrive { .. } | Call::Close => None,
     }
 }

@@ -14,7 +14,8 @@ pub use performing::perform;
 use runs::records::{Status, Step};
 use std::alloc::AllocError;
 
-// A run: each call with its answer, whether the runtime is closed by now, and what it reports.
+// A run: each call with its answer, whether the runtime is closed by now, and what it reports. The flag stands beside the
+// status, which any runtime reports and which names no phase: one type for both would be no plainer.
 #[derive(Drop)]
 pub struct Run {
     pub journal: Vec<Step>,

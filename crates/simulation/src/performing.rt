@@ -58,6 +58,7 @@ fn work_closed<B: Bank>(
 
 // Opens a runtime and performs a list of calls on it, in order; an arrive or a close after a close is no call and is
 // left out. The laws hold of every such run.
+#[tactic(auto, using(crate::proofs::Laws::laws_over_runs))]
 pub fn perform<B: Bank>(heap: Global, project: Project, bank: B, calls: &[Call]) -> Performed<B>
     ensures ran { IfOk result.run (λ run. Ran (line project) (B.Bank.means bank) calls.now run (B.Bank.means result.bank)) }
     ensures laws { LawsOverRuns }

@@ -1,6 +1,6 @@
-ghost use Rattle.std.specs.Prelude.{◌≡◌, ◌++◌, not, OnOk, IfOk};
-ghost use Rattle.runs.specs.Lists.{keep};
-ghost use Rattle.simulation.specs.Journals.{Worked, called, closing};
+ghost use Rattle.std.specs.Prelude.{◌≡◌, ◌++◌, IfOk};
+ghost use Rattle.simulation.specs.Calls.{without};
+ghost use Rattle.simulation.specs.Journals.{Worked, called};
 
 use super::asking::Asking;
 use banks::bank::Bank;
@@ -15,7 +15,7 @@ pub(crate) fn work<B: Bank, S: Asking>(
     mut journal: Vec<Step>,
 ) -> Result<Vec<Step>, AllocError>
     ensures worked { IfOk result (λ k. Worked B.Bank.means line.old.inner journal.items line.new.inner k.items) }
-    ensures calls { IfOk result (λ k. called k.items ≡ called journal.items ++ keep (λ c. not (S.lacks c)) calls.now) }
+    ensures calls { IfOk result (λ k. called k.items ≡ called journal.items ++ without S.lacks calls.now) }
 {
     for call in calls {
         if let Some(answer) = S::ask(line, *call) {

@@ -1,5 +1,4 @@
 use Rattle.simulation.proofs.Ends.{performed, from-empty, closed-behind}
-use Rattle.simulation.proofs.Laws.{laws-over-runs}
 use Rattle.simulation.proofs.performing.perform.Goals as goal
 
 pub returns-in-Some-clause-ran : goal.returns-in-Some-clause-ran
@@ -11,9 +10,6 @@ returns-in-Some-clause-ran g c =
     performed means c.args.project c.args.bank _ _ c.args.calls.now _ _ _ _ c.open-line.ensures all whole
     c.end.ensures.journal c.end.ensures.tells c.end.ensures.bank
 
-pub returns-in-Some-clause-laws : goal.returns-in-Some-clause-laws
-returns-in-Some-clause-laws g c = laws-over-runs
-
 pub returns-in-None-clause-ran : goal.returns-in-None-clause-ran
 returns-in-None-clause-ran g c =
     let means = g.B.Bank.means in
@@ -21,6 +17,3 @@ returns-in-None-clause-ran g c =
     let opened = from-empty means _ _ _ _ _ c.new.ensures.items c.work-journal.ensures.worked c.work-journal.ensures.calls in
     performed means c.args.project c.args.bank _ _ c.args.calls.now _ _ _ _ c.open-line.ensures all opened
     c.end-in-None.ensures.journal c.end-in-None.ensures.tells c.end-in-None.ensures.bank
-
-pub returns-in-None-clause-laws : goal.returns-in-None-clause-laws
-returns-in-None-clause-laws g c = laws-over-runs
