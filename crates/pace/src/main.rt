@@ -49,15 +49,11 @@ fn work(rt: &HostRuntime, name: &str, days: u32, picks: u32) -> anyhow::Result<(
     let mut line = OpenRuntime::open(project, Supplied::of(&project));
     let mut handed = 0u32;
     for day in 0..days {
-        handed = handed.saturating_add(follow(&mut line, DAY.saturating_mul(u64::from(day))));
+        let went = follow(&mut line, DAY.saturating_mul(u64::from(day)));
+        handed = handed.saturating_add(u32::from(went));
     }
     let waiting = fill(&mut line, &project, DAY.saturating_mul(u64::from(days)));
-    let mut named = 0u32;
-    for _ in 0..picks {
-        if line.pick().is_ok() {
-            named = named.saturating_add(1);
-        }
-    }
+    let named = (0..picks).filter(|_| line.pick().is_ok()).count();
     let _ = line.end();
     let size = size_of::<OpenRuntime<Supplied>>();
     println!(rt;
@@ -67,8 +63,8 @@ fn work(rt: &HostRuntime, name: &str, days: u32, picks: u32) -> anyhow::Result<(
     Ok(())
 }
 
-// One event of sensor 0, from its arrival until nothing is left to start or to hand out: how many outputs went.
-fn follow(line: &mut OpenRuntime<Supplied>, start: u64) -> u32 {
+// One event of sensor 0, from its arrival until nothing is left to start or to hand out: whether an output went.
+fn follow(line: &mut OpenRuntime<Supplied>, start: u64) -> bool {
     let _ = line.advance(start.saturating_add(10));
     let _ = line.arrive(0, start, 7);
     let _ = line.advance(start.saturating_add(61));
@@ -78,10 +74,7 @@ fn follow(line: &mut OpenRuntime<Supplied>, start: u64) -> u32 {
         let _ = line.finish(&mut firing);
     }
     let _ = line.advance(start.saturating_add(500));
-    match line.deliver() {
-        Ok(_) => 1,
-        Err(_) => 0,
-    }
+    line.deliver().is_ok()
 }
 
 // Events of all sensors in turn, microsecond by microsecond, until one finds no room.

@@ -1,11 +1,14 @@
-ghost use Rattle.std.specs.Prelude.{◌≡◌, true, false};
+ghost use Rattle.std.specs.Prelude.{◌≡◌};
 
 use super::state::Core;
 use banks::bank::Bank;
+use phase::Phase;
+use std::marker::PhantomData;
 
-mod closed;
+mod calls;
 mod finishing;
 mod open;
+pub mod phase;
 
 // A runtime over its bank.
 pub struct Inner<B: Bank> {
@@ -13,14 +16,15 @@ pub struct Inner<B: Bank> {
     pub(crate) bank: B,
 }
 
-// A runtime that takes in events.
-pub struct OpenRuntime<B: Bank> {
+// A runtime in a phase, which its type says.
+pub struct Runtime<B: Bank, S: Phase> {
     pub(crate) inner: Inner<B>,
-    ghost taking: { inner.core.taking ≡ true },
+    phase: PhantomData<S>,
+    ghost taking: { inner.core.taking ≡ S.taking },
 }
 
+// A runtime that takes in events.
+pub type OpenRuntime<B> = Runtime<B, phase::Open>;
+
 // A runtime that takes in no more events, and works off those that it has.
-pub struct ClosedRuntime<B: Bank> {
-    pub(crate) inner: Inner<B>,
-    ghost shut: { inner.core.taking ≡ false },
-}
+pub type ClosedRuntime<B> = Runtime<B, phase::Closed>;

@@ -1,5 +1,5 @@
 -- The ends of runs.
-use Rattle.std.proofs.Common.{◌≡◌, Bool, true, not, ◌&&◌, eqb, List, [], ◌∷◌, ◌++◌, length, IfOk, Ok, Err, vec_items, Decides, Result, sym, refl, ap, ◌∙◌, subst, arith}
+use Rattle.std.proofs.Common.{Vec, Global, ◌≡◌, Bool, true, not, ◌&&◌, eqb, List, [], ◌∷◌, ◌++◌, length, IfOk, Ok, Err, vec_items, Decides, Result, sym, refl, ap, ◌∙◌, subst, arith}
 use Rattle.std.proofs.lemmas.Bool.{and_from, and_parts, eq-eqb, eqb-true, not-true}
 use Rattle.banks.specs.Meaning.{Meaning}
 use Rattle.project.specs.Project.{line}
@@ -11,14 +11,15 @@ use Rattle.runs.specs.declared.records.Call.{Call}
 use Rattle.runs.specs.declared.records.Call.TheVariants.{Report, Close}
 use Rattle.runs.specs.declared.records.Answer.TheVariants.{Told, Done}
 use Rattle.runs.specs.declared.records.Status.{Status}
+use Rattle.runs.specs.declared.records.Step.{Step}
 use Rattle.runtime.specs.Model.{Does, Opened, state}
 use Rattle.runtime.specs.declared.runtime.Inner.{Inner}
 use Rattle.runtime.proofs.Performs.{performs}
 use Rattle.simulation.specs.Calls.{existing}
 use Rattle.simulation.specs.Journals.{Worked, called, closing}
-use Rattle.simulation.specs.Performed.{Ended, Ran, Tells}
+use Rattle.simulation.specs.Performed.{Ran, Tells}
 use Rattle.simulation.specs.declared.Run.{Run}
-use Rattle.simulation.proofs.Work.{worked-none, worked-step}
+use Rattle.simulation.proofs.Work.{worked-step, worked-then}
 
 module _ {B : Type 0} (means : B → Meaning) where
   told : (i : Inner B) (r : Status) → Does means i Report (Told r) i → r ≡ status (state means i)
@@ -29,53 +30,56 @@ module _ {B : Type 0} (means : B → Meaning) where
       b ≡ i.bank → Tells (state means i) r (means b)
   tells i r b c d e = record { closed = c; status = told i r.status d; rows = ap (λ (b : B). (means b).rows) e }
 
-  -- what was worked off and then told
-  pub worked-ended : (i : Inner B) (h : Journal) (j : Inner B) (cs : List Call) (r : Run) (b : B) →
-      Worked means i h j (vec_items r.journal) → called (vec_items r.journal) ≡ cs → Tells (state means j) r (means b) →
-      b ≡ j.bank → Ended means i h cs r b
-  worked-ended i h j cs r b w c t e = record {
-    last = state means j;
-    runs = w.runs;
-    calls = c;
-    tells = t;
-    reaction = ap (λ (b : B). (means b).reaction) e ∙ w.reaction;
-  }
+  -- a run from open on, of the calls cs
+  ran : (p : Project) (b : B) (i j : Inner B) (cs : List Call) (r : Run) (n : B) →
+      Opened means p b i → Worked means i [] j (vec_items r.journal) → called (vec_items r.journal) ≡ existing cs →
+      Tells (state means j) r (means n) → n ≡ j.bank → Ran (line p) (means b) cs r (means n)
+  ran p b i j cs r n o w c t e =
+      let same = ap (λ (b : B). (means b).reaction) o.bank in
+      let first : Runs (line i.core.project) (means b) [] (state means i) =
+      subst (Runs (line i.core.project) (means b) []) (sym o.state) opened in
+      record {
+        last = state means j;
+        runs = subst (λ (p : Project). Runs (line p) (means b) (vec_items r.journal) (state means j)) o.project (w.runs (means b) (sym same) first);
+        calls = c;
+        tells = t;
+        reaction = ap (λ (b : B). (means b).reaction) e ∙ w.reaction ∙ same;
+      }
+
+  -- the journal k, of the calls cs, on the way from i to j
+  abbrev pub Noted : (i j : Inner B) (cs : List Call) (k : Vec Step Global) → Type 0
+  Noted i j cs k = Worked means i [] j (vec_items k) × (called (vec_items k) ≡ cs)
+
+  -- of a run that ends where memory gave out, nothing is told
+  pub performed : {E : Type 0} (p : Project) (b : B) (i j : Inner B) (cs ds : List Call) (w : Result (Vec Step Global) E) (r : Result Run E) (n : B) →
+      Opened means p b i → existing cs ≡ ds → IfOk w (Noted i j ds) → IfOk r (λ run. w ≡ Ok run.journal) →
+      IfOk r (λ run. Tells (state means j) run (means n)) → n ≡ j.bank →
+      IfOk r (λ run. Ran (line p) (means b) cs run (means n))
+  performed p b i j cs ds w (Ok r) n o d h e t q =
+      let noted : Noted i j ds r.journal = subst (λ w. IfOk w (Noted i j ds)) e h in
+      ran p b i j cs r n o noted.0 (noted.1 ∙ sym d) t q
+  performed p b i j cs ds w (Err e) n o d h k t q = tt
+
+  -- a journal that was empty
+  pub from-empty : {E : Type 0} (i j : Inner B) (cs : List Call) (h : Journal) (w : Result (Vec Step Global) E) → h ≡ [] →
+      IfOk w (λ k. Worked means i h j (vec_items k)) → IfOk w (λ k. called (vec_items k) ≡ called h ++ cs) → IfOk w (Noted i j cs)
+  from-empty i j cs h (Ok k) e w c = (subst (λ (h : Journal). Worked means i h j (vec_items k)) e w, c ∙ ap (λ (h : Journal). called h ++ cs) e)
+  from-empty i j cs h (Err x) e w c = tt
 
   -- a close, and what was worked off behind it
-  pub closed-worked : (i : Inner B) (h : Journal) (j n : Inner B) (k : Journal) → Does means i Close Done j →
-      Worked means j (h ++ closing ∷ []) n k → Worked means i h n k
-  closed-worked i h j n k d w =
-      let c = worked-step means i h i h Close Done j (h ++ closing ∷ []) (worked-none means i h) (performs d) refl in
-      record {
-        runs = λ m e r. subst (λ (p : Project). Runs (line p) m k (state means n)) c.project
-            (w.runs m (e ∙ sym c.reaction) (subst (λ (p : Project). Runs (line p) m (h ++ closing ∷ []) (state means j)) (sym c.project) (c.runs m e r)));
-        project = w.project ∙ c.project;
-        reaction = w.reaction ∙ c.reaction;
-      }
-
-  -- a run from open on
-  pub ran : (p : Project) (b : B) (i : Inner B) (h : Journal) (j : Inner B) (k : Journal) (cs all : List Call) (r : Run) (n : B) →
-      Opened means p b i → h ≡ [] → Worked means i h j k → Ended means j k cs r n → cs ≡ existing all →
-      Ran (line p) (means b) all r (means n)
-  ran p b i h j k cs all r n o e w d q =
-      let same = ap (λ (b : B). (means b).reaction) o.bank in
-      let first : Runs (line i.core.project) (means b) h (state means i) =
-      subst (λ (h : Journal). Runs (line i.core.project) (means b) h (state means i)) (sym e)
-      (subst (Runs (line i.core.project) (means b) []) (sym o.state) opened) in
-      let middle = w.runs (means b) (sym same) first in
-      let end = d.runs (means b) (sym same ∙ sym w.reaction) (subst (λ (p : Project). Runs (line p) (means b) k (state means j)) (sym w.project) middle) in
-      record {
-        last = d.last;
-        runs = subst (λ (p : Project). Runs (line p) (means b) (vec_items r.journal) d.last) (w.project ∙ o.project) end;
-        calls = d.calls ∙ q;
-        tells = d.tells;
-        reaction = d.reaction ∙ w.reaction ∙ same;
-      }
-
--- what holds of all that was made holds of what was made
-pub made-map : {X Y : Type 0} (r : Result X Y) (P Q : X → Type 0) → ((x : X) → P x → Q x) → IfOk r P → IfOk r Q
-made-map (Ok x) P Q f h = f x h
-made-map (Err e) P Q f h = tt
+  pub closed-behind : {E : Type 0} (i j z n : Inner B) (cs ds : List Call) (w v : Result (Vec Step Global) E) →
+      IfOk w (Noted i j cs) → Does means j Close Done z →
+      elim w as (λ _. Type 0) [
+        | Ok h ↦ IfOk v (λ k. Worked means z (vec_items h ++ closing ∷ []) n (vec_items k) × (called (vec_items k) ≡ called (vec_items h) ++ ds))
+        | Err e ↦ v ≡ Err e
+      ] →
+      IfOk v (Noted i n (cs ++ ds))
+  closed-behind i j z n cs ds (Ok h) (Ok k) m d b = (
+    worked-then means (worked-step means _ _ _ _ Close Done _ _ m.0 (performs d) refl) b.0,
+    b.1 ∙ ap (λ (xs : List Call). xs ++ ds) m.1,
+  )
+  closed-behind i j z n cs ds (Ok h) (Err e) m d b = tt
+  closed-behind i j z n cs ds (Err e) v m d b = subst (λ v. IfOk v (Noted i n (cs ++ ds))) (sym b) tt
 
 -- complete runs ---------------------------------------------------------------------------
 

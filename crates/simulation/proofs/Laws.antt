@@ -4,8 +4,8 @@ use Rattle.runs.proofs.Laws.{events_fix_records, events_fix_beginnings, always_o
 use Rattle.project.specs.Project.{line}
 use Rattle.simulation.specs.Laws.{LawsOverRuns}
 
-pub laws-over-runs : LawsOverRuns
-laws-over-runs = record {
+pub laws_over_runs : LawsOverRuns
+laws_over_runs = record {
   events_fix_records = λ p m j e h k s z r q c d. ∥∥₁_map p.sound (λ l. events_fix_records (line p) l m j e h k s z r q c d);
   events_fix_beginnings = λ p m j e h k s z r q c. ∥∥₁_map p.sound (λ l. events_fix_beginnings (line p) l m j e h k s z r q c);
   always_orderly = λ p m h s r. ∥∥₁_map p.sound (λ l. always_orderly (line p) l m h s r);

@@ -1,4 +1,5 @@
 pub mod Work
+pub mod Parts
 pub mod Ends
 pub mod Laws
 pub mod Compared

@@ -1,6 +1,6 @@
 -- Journals that go on being runs.
-use Rattle.std.proofs.Common.{◌≡◌, ℕ, ◌+◌, ◌-◌, ◌<◌, Bool, true, false, cond, not, List, [], ◌∷◌, ◌++◌, length, get_or, take, drop, pos, sym, refl, ap, ◌∙◌, subst, append_assoc, arith, length-drop}
-use Rattle.std.proofs.lemmas.List.{drop_more, map-append, take_all}
+use Rattle.std.proofs.Common.{◌≡◌, ℕ, ◌+◌, ◌<◌, Bool, true, false, cond, not, List, [], ◌∷◌, ◌++◌, length, get_or, drop, pos, sym, refl, ap, ◌∙◌, subst, append_assoc}
+use Rattle.std.proofs.lemmas.List.{at_drop_more, map-append}
 use Rattle.line.specs.Plan.{Plan}
 use Rattle.line.specs.Times.{Line}
 use Rattle.banks.specs.Meaning.{Meaning}
@@ -16,7 +16,7 @@ use Rattle.runs.specs.declared.records.Answer.{Answer}
 use Rattle.runs.specs.declared.records.Step.{Step}
 use Rattle.runtime.specs.Model.{Performs, state}
 use Rattle.runtime.specs.declared.runtime.Inner.{Inner}
-use Rattle.simulation.specs.Calls.{existing, for_open_only, is_close, when_closed}
+use Rattle.simulation.specs.Calls.{without}
 use Rattle.simulation.specs.Journals.{Worked, called}
 
 -- an outcome depends on the bank by its reaction alone
@@ -59,6 +59,14 @@ module _ {B : Type 0} (means : B → Meaning) where
     reaction = d.reaction ∙ w.reaction;
   }
 
+  pub worked-then : {i j n : Inner B} {h k l : Journal} → Worked means i h j k → Worked means j k n l → Worked means i h n l
+  worked-then {i = i} {j = j} {n = n} {k = k} {l = l} v w = record {
+    runs = λ m q r. subst (λ (p : Project). Runs (line p) m l (state means n)) v.project
+        (w.runs m (q ∙ sym v.reaction) (subst (λ (p : Project). Runs (line p) m k (state means j)) (sym v.project) (v.runs m q r)));
+    project = w.project ∙ v.project;
+    reaction = w.reaction ∙ v.reaction;
+  }
+
 -- the calls that are left
 pub called_more : (k k' : Journal) (c : Call) (a : Answer) (rest : List Call) → k' ≡ k ++ record { call = c; answer = a } ∷ [] →
     called k' ++ rest ≡ called k ++ c ∷ rest
@@ -67,53 +75,24 @@ called_more k k' c a rest e =
     ∙ ap (λ (cs : List Call). cs ++ rest) (map-append (λ (x : Step). x.call) k (record { call = c; answer = a } ∷ []))
     ∙ append_assoc (called k) (c ∷ []) rest
 
-module _ (cs : List Call) (i : ℕ) (d : Call) (h : i < length cs) where
-  next-existing : (b : Bool) → is_close (get_or cs i d) ≡ b →
-      existing (drop i cs) ≡ get_or cs i d ∷ cond b (when_closed (drop (i + 1) cs)) (existing (drop (i + 1) cs))
-  next-existing b e = ap existing (drop_more cs i d h)
-      ∙ ap (λ b. get_or cs i d ∷ cond b (when_closed (drop (i + 1) cs)) (existing (drop (i + 1) cs))) e
-
-  next-closed : (b : Bool) → for_open_only (get_or cs i d) ≡ b →
-      when_closed (drop i cs) ≡ cond (not b) (get_or cs i d ∷ when_closed (drop (i + 1) cs)) (when_closed (drop (i + 1) cs))
-  next-closed b e = ap when_closed (drop_more cs i d h)
-      ∙ ap (λ b. cond (not b) (get_or cs i d ∷ when_closed (drop (i + 1) cs)) (when_closed (drop (i + 1) cs))) e
+-- a loop over the calls that a runtime has
+module _ (lacks : Call → Bool) (cs : List Call) (i : ℕ) (d : Call) (h : i < length cs) where
+  next-had : (b : Bool) → lacks (get_or cs i d) ≡ b →
+      without lacks (drop i cs) ≡ cond (not b) (get_or cs i d ∷ without lacks (drop (i + 1) cs)) (without lacks (drop (i + 1) cs))
+  next-had b e = at_drop_more (without lacks) cs i d h
+      ∙ ap (λ b. cond (not b) (get_or cs i d ∷ without lacks (drop (i + 1) cs)) (without lacks (drop (i + 1) cs))) e
 
   module _ (k : Journal) (all : List Call) where
-    pub open_more : (k' : Journal) (a : Answer) → is_close (get_or cs i d) ≡ false →
-        k' ≡ k ++ record { call = get_or cs i d; answer = a } ∷ [] → called k ++ existing (drop i cs) ≡ all →
-        called k' ++ existing (drop (i + 1) cs) ≡ all
-    open_more k' a b e q = called_more k k' (get_or cs i d) a (existing (drop (i + 1) cs)) e
-        ∙ ap (λ (xs : List Call). called k ++ xs) (sym (next-existing false b)) ∙ q
+    pub had-more : (k' : Journal) (a : Answer) → lacks (get_or cs i d) ≡ false →
+        k' ≡ k ++ record { call = get_or cs i d; answer = a } ∷ [] → called k ++ without lacks (drop i cs) ≡ all →
+        called k' ++ without lacks (drop (i + 1) cs) ≡ all
+    had-more k' a b e q = called_more k k' (get_or cs i d) a (without lacks (drop (i + 1) cs)) e
+        ∙ ap (λ (xs : List Call). called k ++ xs) (sym (next-had false b)) ∙ q
 
-    pub open-close : is_close (get_or cs i d) ≡ true → called k ++ existing (drop i cs) ≡ all →
-        called k ++ Close ∷ when_closed (drop (i + 1) cs) ≡ all
-    open-close b q = ap (λ (c : Call). called k ++ c ∷ when_closed (drop (i + 1) cs)) (sym (the-close (get_or cs i d) b))
-        ∙ ap (λ (xs : List Call). called k ++ xs) (sym (next-existing true b)) ∙ q
-      where
-        the-close : (c : Call) → is_close c ≡ true → c ≡ Close
-        the-close Close e = refl
-        the-close (Arrive x t v) e = cc
-        the-close (Advance x) e = cc
-        the-close Pick e = cc
-        the-close (Start x) e = cc
-        the-close Finish e = cc
-        the-close Deliver e = cc
-        the-close Report e = cc
-
-    pub closed-more : (k' : Journal) (a : Answer) → for_open_only (get_or cs i d) ≡ false →
-        k' ≡ k ++ record { call = get_or cs i d; answer = a } ∷ [] → called k ++ when_closed (drop i cs) ≡ all →
-        called k' ++ when_closed (drop (i + 1) cs) ≡ all
-    closed-more k' a b e q = called_more k k' (get_or cs i d) a (when_closed (drop (i + 1) cs)) e
-        ∙ ap (λ (xs : List Call). called k ++ xs) (sym (next-closed false b)) ∙ q
-
-    pub closed-less : for_open_only (get_or cs i d) ≡ true → called k ++ when_closed (drop i cs) ≡ all →
-        called k ++ when_closed (drop (i + 1) cs) ≡ all
-    closed-less b q = ap (λ (xs : List Call). called k ++ xs) (sym (next-closed true b)) ∙ q
+    pub had-less : lacks (get_or cs i d) ≡ true → called k ++ without lacks (drop i cs) ≡ all →
+        called k ++ without lacks (drop (i + 1) cs) ≡ all
+    had-less b q = ap (λ (xs : List Call). called k ++ xs) (sym (next-had true b)) ∙ q
 
 -- what a loop reads past the end of the calls
 abbrev pub no_call : Call
 no_call = Arrive 0 0 (pos 0)
-
--- the part of a list from n on is what is left behind n
-pub part-rest : (cs : List Call) (n : ℕ) → take (length cs - n) (drop n cs) ≡ drop n cs
-part-rest cs n = let e = length-drop n cs in take_all (length cs - n) (drop n cs) (omega arith)

@@ -26,9 +26,17 @@ is_close Deliver = false
 is_close Report = false
 is_close Close = true
 
+-- the calls of a list without those that are lacking
+abbrev pub without : (Call → Bool) → List Call → List Call
+without lacking cs = keep (λ c. not (lacking c)) cs
+
+-- those that an open runtime performs and stays open
+abbrev pub when_open : List Call → List Call
+when_open cs = without is_close cs
+
 -- those that a closed runtime has
 abbrev pub when_closed : List Call → List Call
-when_closed cs = keep (λ c. not (for_open_only c)) cs
+when_closed cs = without for_open_only cs
 
 -- of a list of calls those that exist: after a close neither arrive nor close
 abbrev pub existing : List Call → List Call

@@ -1,18 +1,14 @@
 -- What performing a list of calls hands back.
-use Rattle.std.specs.Prelude.{◌≡◌, not, List, IfOk, vec_items}
+use Rattle.std.specs.Prelude.{◌≡◌, not, List, vec_items}
 use Rattle.line.specs.Times.{Line}
 use Rattle.banks.specs.Meaning.{Meaning}
 use Rattle.runs.specs.Calls.{status}
-use Rattle.project.specs.Project.{line}
-use Rattle.runs.specs.Runs.{Journal, Runs}
+use Rattle.runs.specs.Runs.{Runs}
 use Rattle.runs.specs.State.{State}
 use Rattle.runs.specs.declared.records.Call.{Call}
 use Rattle.simulation.specs.Calls.{existing}
 use Rattle.simulation.specs.Journals.{called}
-use Rattle.runtime.specs.Model.{state}
-use Rattle.runtime.specs.declared.runtime.Inner.{Inner}
 use Rattle.simulation.specs.declared.Run.{Run}
-use Rattle.simulation.specs.declared.Performed.{Performed}
 
 -- the run r tells the state s, over a bank that means n
 pub record Tells (s : State) (r : Run) (n : Meaning) : Type 0 where
@@ -28,15 +24,3 @@ pub record Ran (l : Line) (m : Meaning) (cs : List Call) (r : Run) (n : Meaning)
   pub calls : called (vec_items r.journal) ≡ existing cs
   pub tells : Tells last r n
   pub reaction : n.reaction ≡ m.reaction
-
--- the run r, whose journal was h when the runtime was i: where h is a run to i, r is one with the calls cs
-pub record Ended {B : Type 0} (means : B → Meaning) (i : Inner B) (h : Journal) (cs : List Call) (r : Run) (b : B) : Type 0 where
-  pub last : State
-  pub runs : (m : Meaning) → m.reaction ≡ (means i.bank).reaction → Runs (line i.core.project) m h (state means i) →
-      Runs (line i.core.project) m (vec_items r.journal) last
-  pub calls : called (vec_items r.journal) ≡ cs
-  pub tells : Tells last r (means b)
-  pub reaction : (means b).reaction ≡ (means i.bank).reaction
-
-abbrev pub Ends : {B : Type 0} → (B → Meaning) → Inner B → Journal → List Call → Performed B → Type 0
-Ends means i h cs r = IfOk r.run (λ run. Ended means i h cs run r.bank)

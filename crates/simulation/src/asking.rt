@@ -1,31 +1,105 @@
-ghost use Rattle.std.specs.Prelude.{◌≡◌, true, false, Some, None};
-ghost use Rattle.runtime.specs.Model.{Performs};
+ghost use Rattle.std.specs.Prelude.{◌≡◌, Bool, true, false, not, refl, Ok, Err};
+ghost use Rattle.runs.specs.declared.records.Answer.TheVariants.{Refused};
+ghost use Rattle.runs.specs.declared.records.Call.{Call};
 ghost use Rattle.simulation.specs.Calls.{for_open_only, is_close};
+ghost use Rattle.simulation.specs.Journals.{Asked};
 
-use super::answers::{BLANK, done, fired, handed, named, wrote};
 use banks::bank::Bank;
-use runs::records::{Answer, Call};
-use runtime::runtime::{ClosedRuntime, OpenRuntime};
+use fault::Fault;
+use runs::records::{Answer, Call, Firing};
+use runtime::runtime::Runtime;
+use runtime::runtime::phase::{Closed, Open, Phase};
 
-// Makes a call on an open runtime; a close, which takes the runtime, is left to the caller.
-#[tactic(auto, using(runtime::proofs::Performs::performs))]
-pub(crate) fn ask_open<B: Bank>(line: &mut OpenRuntime<B>, call: Call) -> Option<Answer>
-    ensures { elim result [ Some a ↦ (is_close call ≡ false) × Performs B.Bank.means line.old.inner call a line.new.inner | None ↦ (is_close call ≡ true) × (line.new ≡ line.old) ] }
+// A firing that finish writes over.
+const BLANK: Firing = Firing {
+    actor: 0,
+    timestamp: 0,
+    inlets: [None; 4],
+    outlets: [None; 4],
+};
+
+// What a call returned, as an answer of a journal.
+fn answered<T, F: FnOnce(T) -> Answer>(returned: Result<T, Fault>, accepted: F) -> Answer
+    requires { F.IsAlwaysCallable accepted }
+    ensures { elim returned [ Ok x ↦ F.post accepted x result | Err fault ↦ result ≡ Refused fault ] }
 {
-    match call {
-        Call::Arrive {
-            sensor,
-            timestamp,
-            value,
-        } => Some(done(line.arrive(sensor, timestamp, value))),
-        other => shared!(line, other),
+    match returned {
+        Ok(given) => accepted(given),
+        Err(fault) => Answer::Refused(fault),
     }
 }
 
-// Makes a call on a closed runtime, which has neither arrive nor close.
+// Makes a call that a runtime has in every phase; none for the others.
 #[tactic(auto, using(runtime::proofs::Performs::performs))]
-pub(crate) fn ask_closed<B: Bank>(line: &mut ClosedRuntime<B>, call: Call) -> Option<Answer>
-    ensures { elim result [ Some a ↦ (for_open_only call ≡ false) × Performs B.Bank.means line.old.inner call a line.new.inner | None ↦ (for_open_only call ≡ true) × (line.new ≡ line.old) ] }
+fn ask_any<B: Bank, S: Phase>(line: &mut Runtime<B, S>, call: Call) -> Option<Answer>
+    ensures { Asked B.Bank.means (for_open_only call) line.old.inner call result line.new.inner }
 {
-    shared!(line, call)
+    match call {
+        Call::Advance(clock) => Some(answered(line.advance(clock), |()| Answer::Done)),
+        Call::Pick => Some(answered(line.pick(), Answer::Named)),
+        Call::Start(actor) => Some(answered(line.start(actor), Answer::Fired)),
+        Call::Finish => {
+            let mut firing = BLANK;
+            let finished = line.finish(&mut firing);
+            Some(answered(finished, |()| Answer::Wrote(firing)))
+        }
+        Call::Deliver => Some(answered(line.deliver(), Answer::Handed)),
+        Call::Report => Some(Answer::Told(line.report())),
+        Call::Arrive { .. } | Call::Close => None,
+    }
+}
+
+// A phase of a runtime, with the calls that a runtime has in it.
+pub(crate) trait Asking: Phase {
+    // Those that it does not have.
+    ghost lacks: { Call → Bool };
+
+    // Whether no more events come in.
+    const CLOSED: bool;
+
+    ghost CLOSED: { Bool };
+
+    // Makes a call; none where it is lacking.
+    fn ask<B: Bank>(line: &mut Runtime<B, Self>, call: Call) -> Option<Answer>
+        ensures { Asked B.Bank.means (lacks call) line.old.inner call result line.new.inner };
+
+    // It is as the runtime has it.
+    ghost shut: { CLOSED ≡ not Self.taking };
+}
+
+// A close takes the runtime, and so is left to the caller.
+impl Asking for Open {
+    ghost lacks = { is_close };
+
+    const CLOSED: bool = false;
+
+    ghost CLOSED = { false };
+
+    ghost shut = { refl };
+
+    #[tactic(auto, using(runtime::proofs::Performs::performs))]
+    fn ask<B: Bank>(line: &mut Runtime<B, Open>, call: Call) -> Option<Answer> {
+        match call {
+            Call::Arrive {
+                sensor,
+                timestamp,
+                value,
+            } => Some(answered(line.arrive(sensor, timestamp, value), |()| Answer::Done)),
+            other => ask_any(line, other),
+        }
+    }
+}
+
+impl Asking for Closed {
+    ghost lacks = { for_open_only };
+
+    const CLOSED: bool = true;
+
+    ghost CLOSED = { true };
+
+    ghost shut = { refl };
+
+    fn ask<B: Bank>(line: &mut Runtime<B, Closed>, call: Call) -> Option<Answer> {
+        ask_any(line, call)
+    }
 }

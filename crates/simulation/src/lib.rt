@@ -1,33 +1,9 @@
 // Runs of a line: lists of calls performed over a bank, with the journal of what each call answered.
 #![tactic(auto)]
 
-// The calls that open and closed runtimes share; none for the others.
-macro_rules! shared {
-    ($line:expr, $call:expr) => {
-        match $call {
-            Call::Advance(clock) => Some(done($line.advance(clock))),
-            Call::Pick => Some(named($line.pick())),
-            Call::Start(actor) => Some(fired($line.start(actor))),
-            Call::Finish => {
-                let mut firing = BLANK;
-                let result = $line.finish(&mut firing);
-                Some(wrote(result, firing))
-            }
-            Call::Deliver => Some(handed($line.deliver())),
-            Call::Report => Some(Answer::Told($line.report())),
-            Call::Arrive {
-                sensor: _,
-                timestamp: _,
-                value: _,
-            } => None,
-            Call::Close => None,
-        }
-    };
-}
-
-mod answers;
 mod asking;
 mod comparing;
+mod parting;
 mod performing;
 mod run_state;
 mod working;
@@ -38,7 +14,8 @@ pub use performing::perform;
 use runs::records::{Status, Step};
 use std::alloc::AllocError;
 
-// A run: each call with its answer, whether the runtime is closed by now, and what it reports.
+// A run: each call with its answer, whether the runtime is closed by now, and what it reports. The flag stands beside the
+// status, which any runtime reports and which names no phase: one type for both would be no plainer.
 #[derive(Drop)]
 pub struct Run {
     pub journal: Vec<Step>,

@@ -19,10 +19,6 @@ impl Run {
     pub fn is_complete(&self) -> bool
         ensures { (s : State) (n : Meaning) → Tells s self.now n → Decides result (Complete s) }
     {
-        if self.closed {
-            nothing_left(self.status)
-        } else {
-            false
-        }
+        self.closed && nothing_left(self.status)
     }
 }

@@ -8,15 +8,15 @@ use std::test::Fail;
 use supplied::bank::Supplied;
 
 // Two sensors feed a count; a pass of delay 500 and one of delay 0 follow it in a row.
-pub const SAMPLE: &[u8; 74] =
+pub(crate) const SAMPLE: &[u8; 74] =
     b"LIN\x01\x00\x02\x03\x01\x05\x3C\x00\x00\x00\x00\x00\x00\x00\x01\x00\x00\x00\x00\x00\x00\x00\x00\x00\x00\x00\x00\x00\xF4\x01\x00\x00\x00\x00\x00\x00\x00\x00\x00\x00\x00\x00\x00\x00\x00\x00\x00\x00\x01\x00\x00\x00\x01\x01\x00\x00\x00\x01\x00\x01\x01\x00\x00\x02\x00\x01\x02\x00\x01\x00\x00";
 
 // Sensor 0 feeds actor 0, which feeds actor 1 without delay; sensor 1 feeds actor 1 at its inlet 1; both pass.
-pub const FORK: &[u8; 59] =
+pub(crate) const FORK: &[u8; 59] =
     b"LIN\x01\x00\x02\x02\x01\x04\x00\x00\x00\x00\x00\x00\x00\x00\x00\x00\x00\x00\x00\x00\x00\x00\x00\x00\x00\x00\x00\x00\x01\x00\x00\x00\x00\x00\x00\x00\x00\x00\x00\x01\x00\x00\x01\x01\x01\x00\x00\x00\x01\x00\x01\x01\x00\x01\x00\x00";
 
 // Performs calls on the line of an image, over the supplied bank.
-pub fn run(heap: Global, image: &[u8], calls: &[Call]) -> Result<Run, Fail> {
+pub(crate) fn run(heap: Global, image: &[u8], calls: &[Call]) -> Result<Run, Fail> {
     let mut project = Project::fresh();
     project.read(image)?;
     let Performed { bank: _, run } = perform(heap, project, Supplied::of(&project), calls);
@@ -24,14 +24,14 @@ pub fn run(heap: Global, image: &[u8], calls: &[Call]) -> Result<Run, Fail> {
 }
 
 // Checks the answers of a run, one by one.
-pub fn answers(rt: &impl Abort, run: &Run, wanted: &[Answer]) {
+pub(crate) fn answers(rt: &impl Abort, run: &Run, wanted: &[Answer]) {
     assert_eq!(rt; run.journal.len(), wanted.len());
     for (step, answer) in run.journal.iter().zip(wanted) {
         assert_eq!(rt; step.answer, *answer);
     }
 }
 
-pub fn arrive(sensor: u64, timestamp: u64, value: i32) -> Call {
+pub(crate) fn arrive(sensor: u64, timestamp: u64, value: i32) -> Call {
     Call::Arrive {
         sensor,
         timestamp,
@@ -39,11 +39,11 @@ pub fn arrive(sensor: u64, timestamp: u64, value: i32) -> Call {
     }
 }
 
-pub fn refused(cause: RunCause, place: u64) -> Answer {
+pub(crate) fn refused(cause: RunCause, place: u64) -> Answer {
     Answer::Refused(Fault::Run(cause, place))
 }
 
-pub fn fires(actor: u8, timestamp: u64, deadline: u64) -> Answer {
+pub(crate) fn fires(actor: u8, timestamp: u64, deadline: u64) -> Answer {
     Answer::Fired(Started {
         actor,
         timestamp,
@@ -52,7 +52,7 @@ pub fn fires(actor: u8, timestamp: u64, deadline: u64) -> Answer {
 }
 
 // A firing with at most inlets 0 and 1 and outlet 0.
-pub fn wrote(
+pub(crate) fn wrote(
     actor: u8,
     timestamp: u64,
     first: Option<i32>,

@@ -1,35 +1,31 @@
-ghost use Rattle.std.specs.Prelude.{◌≡◌, false, is_ok};
+// The calls of a runtime that takes in events.
+ghost use Rattle.std.specs.Prelude.{◌≡◌};
 ghost use Rattle.runs.specs.State.{fresh};
-ghost use Rattle.runs.specs.declared.records.Call.TheVariants.{Arrive, Advance, Pick, Start, Finish, Deliver, Report, Close};
-ghost use Rattle.runs.specs.declared.records.Answer.TheVariants.{Done, Told};
-ghost use Rattle.runtime.specs.Answers.{done, fired, handed, named, wrote};
-ghost use Rattle.runtime.specs.Model.{Does, Opened, Performs};
+ghost use Rattle.runs.specs.declared.records.Call.TheVariants.{Arrive, Close};
+ghost use Rattle.runs.specs.declared.records.Answer.TheVariants.{Done};
+ghost use Rattle.runtime.specs.Answers.{done};
+ghost use Rattle.runtime.specs.Model.{Does, Opened};
 
-use super::{ClosedRuntime, Inner, OpenRuntime};
+use super::phase::Open;
+use super::{ClosedRuntime, Inner, OpenRuntime, Runtime};
 use crate::state::Core;
 use banks::bank::Bank;
 use fault::Fault;
 use project::project::Project;
-use runs::records::{Delivered, Firing, Started, Status};
+use std::marker::PhantomData;
 
-impl<B: Bank> OpenRuntime<B> {
+impl<B: Bank> Runtime<B, Open> {
     // A runtime at clock 0 with nothing waiting. It holds the bank until it is ended.
     pub fn open(project: Project, bank: B) -> OpenRuntime<B>
         ensures { Opened B.Bank.means project bank result.inner }
     {
-        OpenRuntime {
+        Runtime {
             inner: Inner {
                 core: Core::open(project),
                 bank,
             },
+            phase: PhantomData,
         }
-    }
-
-    // The clock, and how many events wait, firings run and outputs wait.
-    pub fn report(&self) -> Status
-        ensures { Does B.Bank.means self.now.inner Report (Told result) self.now.inner }
-    {
-        self.inner.core.report()
     }
 
     // Takes in an event of a sensor.
@@ -39,59 +35,18 @@ impl<B: Bank> OpenRuntime<B> {
         self.inner.core.arrive(sensor, timestamp, value)
     }
 
-    // Sets the clock.
-    pub fn advance(&mut self, clock: u64) -> Result<(), Fault>
-        ensures { Does B.Bank.means self.old.inner (Advance clock) (done result) self.new.inner }
-    {
-        self.inner.core.advance(clock)
-    }
-
-    // The actor to start next: of those that start would accept, that with the least deadline, then the least timestamp,
-    // then the least number.
-    pub fn pick(&self) -> Result<u8, Fault>
-        ensures { Does B.Bank.means self.now.inner Pick (named result) self.now.inner }
-    {
-        self.inner.core.pick()
-    }
-
-    // Starts a firing of an actor, of all events of the least timestamp that waits there.
-    pub fn start(&mut self, actor: u64) -> Result<Started, Fault>
-        ensures { Does B.Bank.means self.old.inner (Start actor) (fired result) self.new.inner }
-    {
-        self.inner.core.start(actor)
-    }
-
-    // Completes the top firing: lets it react, sends on what it gave, and writes it into `firing`.
-    pub fn finish(&mut self, firing: &mut Firing) -> Result<(), Fault>
-        ensures does { Performs B.Bank.means self.old.inner Finish (wrote result firing.new) self.new.inner }
-        ensures refused { is_ok result ≡ false → firing.new ≡ firing.old }
-    {
-        self.inner.finish(firing)
-    }
-
-    // Hands out an output of the least timestamp, if it is due.
-    pub fn deliver(&mut self) -> Result<Delivered, Fault>
-        ensures { Does B.Bank.means self.old.inner Deliver (handed result) self.new.inner }
-    {
-        self.inner.core.deliver()
-    }
-
     // The same runtime, which takes in no more events.
     pub fn close(self) -> ClosedRuntime<B>
         ensures { Does B.Bank.means self.inner Close Done result.inner }
     {
-        let OpenRuntime { mut inner } = self;
-        inner.core.close();
-        ClosedRuntime { inner }
-    }
-
-    // Hands the bank back.
-    pub fn end(self) -> B
-        ensures { result ≡ self.inner.bank }
-    {
-        let OpenRuntime {
-            inner: Inner { core: _, bank },
+        let Runtime {
+            mut inner,
+            phase: _,
         } = self;
-        bank
+        inner.core.close();
+        Runtime {
+            inner,
+            phase: PhantomData,
+        }
     }
 }

@@ -1,39 +1,19 @@
-use Rattle.std.proofs.Common.{List, ◌∷◌, ◌++◌, vec_items, ap, ◌∙◌}
-use Rattle.runs.specs.Runs.{Journal}
-use Rattle.runs.specs.declared.records.Call.{Call}
-use Rattle.runs.specs.declared.records.Call.TheVariants.{Close}
-use Rattle.simulation.specs.Calls.{existing, when_closed}
-use Rattle.simulation.specs.Journals.{called}
-use Rattle.simulation.proofs.Ends.{made-map, ran}
-use Rattle.simulation.proofs.Laws.{laws-over-runs}
-use Rattle.simulation.proofs.Work.{part-rest}
+use Rattle.simulation.proofs.Ends.{performed, from-empty, closed-behind}
 use Rattle.simulation.proofs.performing.perform.Goals as goal
 
-pub returns-in-None : goal.returns-in-None
-returns-in-None g c =
+pub returns-in-Some-clause-ran : goal.returns-in-Some-clause-ran
+returns-in-Some-clause-ran g c =
     let means = g.B.Bank.means in
-    let all = c.args.calls.now in
-    let h = vec_items c.new-journal.result in
-    let done = c.in-Ok.ensures in
-    let calls = (rw c.in-None.is at done.calls) ∙ ap (λ (h : Journal). called h ++ existing all) c.new-journal.ensures.items in
-    record {
-      ran = made-map c.end_open.result.run _ _ (λ run e. ran means c.args.project c.args.bank c.open-line.result.inner h _ _ _ all run c.end_open.result.bank c.open-line.ensures c.new-journal.ensures.items done.worked e calls) c.end_open.ensures;
-      laws = laws-over-runs;
-    }
+    let all = rw c.in-Some.is at c.part_at_close.ensures in
+    let opened = from-empty means _ _ _ _ _ c.new.ensures.items c.work-journal.ensures.worked c.work-journal.ensures.calls in
+    let whole = closed-behind means _ _ _ _ _ _ _ _ opened c.close-line.ensures c.work_closed-journal.ensures in
+    performed means c.args.project c.args.bank _ _ c.args.calls.now _ _ _ _ c.open-line.ensures all whole
+    c.end.ensures.journal c.end.ensures.tells c.end.ensures.bank
 
-pub returns-in-Some : goal.returns-in-Some
-returns-in-Some g c =
+pub returns-in-None-clause-ran : goal.returns-in-None-clause-ran
+returns-in-None-clause-ran g c =
     let means = g.B.Bank.means in
-    let all = c.args.calls.now in
-    let h = vec_items c.new-journal.result in
-    let done = c.in-Ok.ensures in
-    let k = vec_items c.work_open.new.journal in
-    let rest = ap (λ (cs : List Call). called k ++ Close ∷ when_closed cs) (part-rest all c.in-Some.next) in
-    let calls = rest ∙ (rw c.in-Some.is at done.calls).1 ∙ ap (λ (h : Journal). called h ++ existing all) c.new-journal.ensures.items in
-    record {
-      ran = made-map c.end_closed.result.run _ _ (λ run e. ran means c.args.project c.args.bank c.open-line.result.inner h _ _ _ all run c.end_closed.result.bank c.open-line.ensures c.new-journal.ensures.items done.worked e calls) c.end_closed.ensures;
-      laws = laws-over-runs;
-    }
-
-pub returns-in-Err : goal.returns-in-Err
-returns-in-Err g c = record { ran = tt; laws = laws-over-runs }
+    let all = rw c.in-None.is at c.part_at_close.ensures in
+    let opened = from-empty means _ _ _ _ _ c.new.ensures.items c.work-journal.ensures.worked c.work-journal.ensures.calls in
+    performed means c.args.project c.args.bank _ _ c.args.calls.now _ _ _ _ c.open-line.ensures all opened
+    c.end-in-None.ensures.journal c.end-in-None.ensures.tells c.end-in-None.ensures.bank

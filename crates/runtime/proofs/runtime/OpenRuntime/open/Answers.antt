@@ -1,5 +1,0 @@
-use Rattle.std.proofs.Common.{refl}
-use Rattle.runtime.proofs.runtime.OpenRuntime.open.Goals as goal
-
-pub returns : goal.returns
-returns g c = record { project = c.open.ensures.project; bank = refl; state = c.open.ensures.state (g.B.Bank.means c.args.bank) }
