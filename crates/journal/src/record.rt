@@ -64,10 +64,5 @@ pub(crate) fn same_for_all<E: Entry>(first: &[Step], second: &[Step]) -> bool
     ensures below { Decides result ((n : ℕ) → n < 256 → told_of E.Entry.kind n first.now ≡ told_of E.Entry.kind n second.now) }
     ensures low { result ≡ true → Numbered E.Entry.kind first.now × Numbered E.Entry.kind second.now }
 {
-    for number in 0..NUMBERS {
-        if !same_record::<E>(first, second, number) {
-            return false;
-        }
-    }
-    true
+    (0..NUMBERS).all(|number| same_record::<E>(first, second, number))
 }

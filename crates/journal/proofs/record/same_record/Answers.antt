@@ -1,4 +1,4 @@
-use Rattle.std.proofs.Common.{◌≡◌, sym, subst}
+use Rattle.std.proofs.Common.{sym, subst}
 use Rattle.journal.specs.Entries.{Begins}
 use Rattle.journal.proofs.Compared.{compared, from-beginnings}
 use Rattle.journal.proofs.record.same_record.Goals as goal
