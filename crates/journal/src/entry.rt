@@ -1,6 +1,7 @@
 // What one step of a journal adds to a record.
 ghost use Rattle.std.specs.Prelude.{◌≡◌, ◌<◌};
-ghost use Rattle.journal.specs.Told.{Kind, listed, arrivals, firings, outputs};
+ghost use Rattle.std.specs.Option.{option_to_list};
+ghost use Rattle.journal.specs.Told.{Kind, arrivals, firings, outputs};
 ghost use Rattle.std.proofs.Common.{rules};
 ghost use Rattle.runs.proofs.Equal.{firing_exact};
 ghost use Rattle.runs.specs.Equal.{Exact};
@@ -13,7 +14,7 @@ pub(crate) trait Entry: Copy + PartialEq {
     ghost kind: { Kind Self };
 
     fn told_by(step: &Step) -> Option<Self>
-        ensures { listed result ≡ kind.told step.now };
+        ensures { option_to_list result ≡ kind.told step.now };
 
     // The number of its sensor, actor or actuator.
     fn owner(&self) -> u64

@@ -37,13 +37,8 @@ impl<'a, E: Entry> Iterator for Entries<'a, E> {
     ghost remaining = { λ s. at_most (length (iter_rest s.steps)) };
 
     fn next(&mut self) -> Option<E> {
-        while let Some(step) = self.steps.next() {
-            match E::told_by(step) {
-                Some(entry) if entry.owner() == self.number => return Some(entry),
-                _ => {}
-            }
-        }
-        None
+        let number = self.number;
+        self.steps.find_map(|step| E::told_by(step).filter(|entry| entry.owner() == number))
     }
 }
 
