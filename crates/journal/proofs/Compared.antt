@@ -5,6 +5,7 @@ use Rattle.std.specs.List.{AllZip}
 use Rattle.std.specs.Slice.Iter.{iter_rest}
 use Rattle.std.proofs.lemmas.List.{append_cancel_left}
 use Rattle.std.proofs.lemmas.Bool.{true≢false}
+use Rattle.runs.specs.Equal.{Exact}
 use Rattle.runs.specs.Runs.{Journal}
 use Rattle.journal.specs.Told.{Kind, told_of, Numbered}
 use Rattle.journal.specs.Entries.{ahead, Low, Gives, Begins}
@@ -24,19 +25,18 @@ module _ {A : Type 0} (k : Kind A) where
   low-so-far [] s t e l = subst (Low k) (sym e) l
   low-so-far (x ∷ xs) s t h l = h.1.1 (low-so-far xs h.0 t h.2 l)
 
-module _ {A : Type 0} (same : A → A → Bool → Type 0)
-    (exact : (x y : A) (r : Bool) → same x y r → Decides r (x ≡ y)) where
-  paired_same : (xs ys : List A) → AllZip (λ (x y : A). same x y true) xs ys → xs ≡ ys
+module _ {A : Type 0} (eq : A → A → Bool) (exact : Exact eq) where
+  paired_same : (xs ys : List A) → AllZip (λ (x y : A). eq x y ≡ true) xs ys → xs ≡ ys
   paired_same [] [] h = refl
   paired_same [] (y ∷ ys) h = absurd h
   paired_same (x ∷ xs) [] h = absurd h
   paired_same (x ∷ xs) (y ∷ ys) h =
-      let e : x ≡ y = (exact x y true h.0).0 refl in let es : xs ≡ ys = paired_same xs ys h.1 in cc
+      let e : x ≡ y = (exact x y).0 h.0 in let es : xs ≡ ys = paired_same xs ys h.1 in cc
 
   -- what the comparison found where it stopped, and its answer
   abbrev Ended : Bool → Option A → Option A → Type 0
   Ended r o p = MatchOption o (MatchOption p (r ≡ true) (λ _. r ≡ false))
-      (λ x. (r ≡ false) × IfSome p (λ y. same x y false))
+      (λ x. (r ≡ false) × IfSome p (λ y. eq x y ≡ false))
 
   module _ (k : Kind A) where
     -- behind a beginning that is the same
@@ -56,13 +56,13 @@ module _ {A : Type 0} (same : A → A → Bool → Type 0)
     ended r s t u v (Some x) (Some y) a b h = (
       refuted r _ h.0 (λ e.
           let z : x ∷ ahead k u ≡ y ∷ ahead k v = sym a.0 ∙ e ∙ b.0 in let q : x ≡ y = cc in
-          true≢false (sym ((exact x y false h.1).1 q))),
+          true≢false (sym ((exact x y).1 q) ∙ h.1)),
       λ t. absurd (true≢false (sym t ∙ h.0)),
     )
 
     pub compared : (r : Bool) (s t u v : Entries A) (xs ys : List A) (o p : Option A) →
         YieldsThen (Gives k) s xs o u → YieldsThen (Gives k) t ys p v →
-        AllZip (λ (x y : A). same x y true) xs ys → Ended r o p →
+        AllZip (λ (x y : A). eq x y ≡ true) xs ys → Ended r o p →
         Decides r (ahead k s ≡ ahead k t) × (r ≡ true → Low k s × Low k t)
     compared r s t u v xs ys o p f g q h =
         let a : ahead k s ≡ xs ++ ahead k f.0 = so_far k xs s f.0 f.1 in

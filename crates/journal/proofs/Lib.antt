@@ -1,4 +1,5 @@
 pub mod Compared
 pub mod Numbers
+pub mod Search
 pub mod Events
 pub mod Law

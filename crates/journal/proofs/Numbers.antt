@@ -1,7 +1,9 @@
 -- From the numbers of a byte to all numbers.
-use Rattle.std.proofs.Common.{◌≡◌, ℕ, ◌<◌, ◌≤◌, Bool, true, false, eqb, List, [], ◌∷◌, Decides, sym, refl, ◌∙◌, inl, inr, arith}
-use Rattle.std.specs.List.{flat_map}
-use Rattle.std.proofs.lemmas.Bool.{cases_lt, ne_eqb}
+use Rattle.std.proofs.Common.{◌≡◌, ℕ, ◌<◌, ◌≤◌, Bool, true, false, eqb, List, [], ◌∷◌, Decides, length, slice_index_or, subst, sym, refl, ◌∙◌, inl, inr, arith}
+use Rattle.std.specs.Bool.{MatchBool}
+use Rattle.std.specs.List.{AllWithin, HoldsAt, flat_map, range_with_len}
+use Rattle.std.proofs.lemmas.List.FromFn.{get_or-range_with_len, length-range_with_len}
+use Rattle.std.proofs.lemmas.Bool.{cases_lt, ne_eqb, true≢false}
 use Rattle.runs.specs.Lists.{Each, keep}
 use Rattle.runs.specs.Runs.{Journal}
 use Rattle.journal.specs.Told.{Kind, told_of, Numbered}
@@ -37,3 +39,21 @@ decides-all {A} k r h j b d low = (
   where
     bytes : (h : Journal) → Numbered k h → Each (λ (e : A). k.number e < 256) (flat_map k.told h)
     bytes h l e m = let w = l e m in omega arith
+
+-- what was found of the numbers below b, one after another
+pub decides-range : (P : ℕ → Type 0) (b : ℕ) (r : Bool) →
+    MatchBool r (AllWithin P (range_with_len 0 b) 0 (length (range_with_len 0 b)))
+    ((k : ℕ) × (k < length (range_with_len 0 b)) × HoldsAt (λ n. P n → ⊥) (range_with_len 0 b) k) →
+    Decides r ((n : ℕ) → n < b → P n)
+decides-range P b true h = (
+  λ _ n l.
+      let item : slice_index_or (range_with_len 0 b) n 0 ≡ n = get_or-range_with_len 0 b n 0 l ∙ omega arith in
+      subst P item (h n 0 (omega arith) (rw (length-range_with_len 0 b) l)),
+  λ _. refl,
+)
+decides-range P b false (k, l, h) =
+    let small : k < b = rw (sym (length-range_with_len 0 b)) l in
+    let item : slice_index_or (range_with_len 0 b) k 0 ≡ k = get_or-range_with_len 0 b k 0 small ∙ omega arith in (
+      λ e. absurd (true≢false (sym e)),
+      λ f. absurd (h 0 (subst P (sym item) (f k small))),
+    )

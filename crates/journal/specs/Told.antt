@@ -1,5 +1,5 @@
 -- What a journal tells of each number: of a sensor its events, of an actor its firings, of an actuator its outputs.
-use Rattle.std.specs.Prelude.{ℕ, ◌^◌, ◌<◌, List, [], ◌∷◌, map, Some, None, Option, nat_eq}
+use Rattle.std.specs.Prelude.{ℕ, ◌^◌, ◌<◌, List, map, nat_eq}
 use Rattle.std.specs.List.{flat_map}
 use Rattle.runs.specs.Lists.{Each, keep}
 use Rattle.runs.specs.Runs.{Journal, arrival_in, firing_in, output_in}
@@ -8,11 +8,6 @@ use Rattle.runs.specs.declared.records.Firing.{Firing}
 use Rattle.runs.specs.declared.records.Output.{Output}
 use Rattle.runs.specs.declared.records.Step.{Step}
 use Rattle.journal.specs.declared.entry.Arrival.{Arrival}
-
--- what is there, as a list
-abbrev pub listed : {A : Type 0} → Option A → List A
-listed None = []
-listed (Some x) = x ∷ []
 
 -- a kind of entry: what a step tells, whose entry that is, and a number above all of them
 pub record Kind (A : Type 0) : Type 0 where

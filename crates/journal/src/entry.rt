@@ -1,8 +1,10 @@
 // What one step of a journal adds to a record.
-ghost use Rattle.std.specs.Prelude.{◌≡◌, ◌<◌, Bool, Decides};
-ghost use Rattle.journal.specs.Told.{Kind, listed, arrivals, firings, outputs};
+ghost use Rattle.std.specs.Prelude.{◌≡◌, ◌<◌};
+ghost use Rattle.std.specs.Option.{option_to_list};
+ghost use Rattle.journal.specs.Told.{Kind, arrivals, firings, outputs};
 ghost use Rattle.std.proofs.Common.{rules};
 ghost use Rattle.runs.proofs.Equal.{firing_exact};
+ghost use Rattle.runs.specs.Equal.{Exact};
 
 use runs::records::{Answer, Call, Firing, Output, Step};
 
@@ -12,7 +14,7 @@ pub(crate) trait Entry: Copy + PartialEq {
     ghost kind: { Kind Self };
 
     fn told_by(step: &Step) -> Option<Self>
-        ensures { listed result ≡ kind.told step.now };
+        ensures { option_to_list result ≡ kind.told step.now };
 
     // The number of its sensor, actor or actuator.
     fn owner(&self) -> u64
@@ -20,7 +22,7 @@ pub(crate) trait Entry: Copy + PartialEq {
         ensures below { result < kind.bound };
 
     // Entries that `==` takes for the same are the same.
-    ghost exact: { (x y : Self) (r : Bool) → (r ≡ Self.PartialEq.eq x y) → Decides r (x ≡ y) };
+    ghost exact: { Exact Self.PartialEq.eq };
 }
 
 // An accepted event of a sensor.

@@ -37,13 +37,8 @@ impl<'a, E: Entry> Iterator for Entries<'a, E> {
     ghost remaining = { λ s. at_most (length (iter_rest s.steps)) };
 
     fn next(&mut self) -> Option<E> {
-        while let Some(step) = self.steps.next() {
-            match E::told_by(step) {
-                Some(entry) if entry.owner() == self.number => return Some(entry),
-                _ => {}
-            }
-        }
-        None
+        let number = self.number;
+        self.steps.find_map(|step| E::told_by(step).filter(|entry| entry.owner() == number))
     }
 }
 
@@ -64,10 +59,5 @@ pub(crate) fn same_for_all<E: Entry>(first: &[Step], second: &[Step]) -> bool
     ensures below { Decides result ((n : ℕ) → n < 256 → told_of E.Entry.kind n first.now ≡ told_of E.Entry.kind n second.now) }
     ensures low { result ≡ true → Numbered E.Entry.kind first.now × Numbered E.Entry.kind second.now }
 {
-    for number in 0..NUMBERS {
-        if !same_record::<E>(first, second, number) {
-            return false;
-        }
-    }
-    true
+    (0..NUMBERS).all(|number| same_record::<E>(first, second, number))
 }

@@ -124,12 +124,6 @@ keep-map {A} {B} f t (x ∷ xs) = let h = keep-map f t xs in
       | false ↦ h
     ]
 
-pub length-keep : {A : Type 0} (f : A → Bool) (xs : List A) → length (keep f xs) ≤ length xs
-length-keep f [] = omega arith
-length-keep f (x ∷ xs) = let h = length-keep f xs in
-    elim (f x) as (λ b. length (cond b (x ∷ keep f xs) (keep f xs)) ≤ length (x ∷ xs))
-    [ true ↦ omega arith | false ↦ omega arith ]
-
 -- pairs -----------------------------------------------------------------------
 
 pairs-step : {A : Type 0} (R : A → A → Type 0) (f : A → Bool) (y : A) (ys : List A) → Each (R y) ys →

@@ -1,21 +1,19 @@
 -- Safety as an invariant of a type: what each call keeps, and what an invariant gives.
-use Rattle.std.proofs.Common.{◌≡◌, ℕ, ◌+◌, ◌<◌, ◌≤◌, true, List, ◌∷◌, length, ℤ, Some, Option, arith}
+use Rattle.std.proofs.Common.{◌≡◌, ℕ, ◌+◌, ◌<◌, ◌≤◌, List, ◌∷◌, length, ℤ, Option, arith}
 use mathlib.Core.Logic.{∥∥₁_elim, ∥∥₁_map}
 use native.Mathlib.Bridge.{le_prop}
-use Rattle.line.specs.Lists.{In}
 use Rattle.line.specs.Times.{Line, Sound}
 use Rattle.banks.specs.Meaning.{Meaning, Reacted}
 use Rattle.runs.specs.State.{State, fresh, with_rows, unstacked, delivered, closed, firing_of, events_sent}
-use Rattle.runs.specs.State.{outputs_sent, longest_delay}
-use Rattle.runs.specs.Calls.{horizon, event_room, output_room, arrive_after, advance_after, start_after, Startable}
+use Rattle.runs.specs.State.{outputs_sent}
+use Rattle.runs.specs.Calls.{event_room, output_room, Startable}
 use Rattle.runs.specs.Calls.{Delivers}
 use Rattle.runs.specs.Safe.{Safe, Secure}
-use Rattle.runs.specs.declared.records.Event.{Event}
 use Rattle.runs.specs.declared.records.Running.{Running}
 use Rattle.runs.specs.declared.records.Output.{Output}
 use Rattle.runs.specs.declared.records.Delivered.{Delivered}
 use Rattle.runs.proofs.Safe.{safe-open, safe-finish, safe-deliver, safe-close}
-use Rattle.runs.proofs.Safety.{safe-arrive-after, safe-advance-after, safe-start-after, bounded, start_fits}
+use Rattle.runs.proofs.Safety.{start_fits}
 use Rattle.runs.proofs.Safety.{finish-room}
 
 -- rows do not matter
@@ -58,16 +56,6 @@ pub secure-deliver : (l : Line) (s : State) (d : Delivered) (os : List Output) �
 secure-deliver l s d os h i = ∥∥₁_map i (safe-deliver l s d os h)
 
 module _ (l : Line) (sound : Sound l) where
-  pub secure-arrive : (s : State) (x t : ℕ) (v : ℤ) → s.taking ≡ true → Secure l s →
-      Secure l (arrive_after l s x t v)
-  secure-arrive s x t v live i = ∥∥₁_map i (safe-arrive-after l sound s x t v live)
-
-  pub secure-advance : (s : State) (c : ℕ) → Secure l s → Secure l (advance_after s c)
-  secure-advance s c i = ∥∥₁_map i (safe-advance-after l sound s c)
-
-  pub secure-start : (s : State) (a : ℕ) → Secure l s → Secure l (start_after l s a)
-  secure-start s a i = ∥∥₁_map i (safe-start-after l sound s a)
-
   -- whatever the reaction gave
   pub secure-finish : (s : State) (f : Running) (fs : List Running) (v : Reacted) → s.stack ≡ f ∷ fs → Secure l s →
       Secure l (unstacked l s f fs v)
@@ -78,18 +66,9 @@ module _ (l : Line) (sound : Sound l) where
   at_most : (s : State) (m n : ℕ) → Secure l s → (Safe l s → m ≤ n) → m ≤ n
   at_most s m n i f = ∥∥₁_elim i le_prop f
 
-  pub stack-room : (s : State) → Secure l s → length s.stack ≤ 32
-  stack-room s i = at_most s _ _ i (λ h. (bounded l sound s h).firings)
-
   -- an accepted start finds a place on the stack
   pub start-room : (s : State) (a : ℕ) → Startable l s a → Secure l s → length s.stack < 32
   start-room s a e i = at_most s _ _ i (start_fits l sound s a e)
-
-  pub events-room : (s : State) → Secure l s → length s.events ≤ event_room
-  events-room s i = at_most s _ _ i (λ h. (bounded l sound s h).events)
-
-  pub outputs-room : (s : State) → Secure l s → length s.outputs ≤ output_room
-  outputs-room s i = at_most s _ _ i (λ h. (bounded l sound s h).outputs)
 
   -- what a finish sends finds room
   pub sent-events-room : (s : State) (f : Running) (fs : List Running) (g : List (Option ℤ)) → s.stack ≡ f ∷ fs →
@@ -103,35 +82,3 @@ module _ (l : Line) (sound : Sound l) where
       length s.outputs + length (outputs_sent l.plan (firing_of l.plan f g)) ≤ output_room
   sent-outputs-room s f fs g e i = at_most s _ _ i (λ h. let w = (finish-room l.plan s f fs g e h.fitting).1 in
       omega arith)
-
-  -- ranges
-  pub clock-range : (s : State) → Secure l s → s.clock ≤ horizon
-  clock-range s i = at_most s _ _ i (λ h. h.fitting.clock)
-
-  pub event-actor-range : (s : State) (e : Event) → In e s.events → Secure l s →
-      e.actor < length l.plan.actors
-  event-actor-range s e n i = at_most s _ _ i (λ h. (h.fitting.events e n).actor)
-
-  pub event-inlet-range : (s : State) (e : Event) → In e s.events → Secure l s → e.inlet < 4
-  event-inlet-range s e n i = at_most s _ _ i (λ h. (h.fitting.events e n).inlet)
-
-  pub event-time-range : (s : State) (e : Event) → In e s.events → Secure l s → e.timestamp ≤ horizon
-  event-time-range s e n i = at_most s _ _ i (λ h. (h.fitting.events e n).timestamp)
-
-  pub firing-actor-range : (s : State) (f : Running) → In f s.stack → Secure l s →
-      f.actor < length l.plan.actors
-  firing-actor-range s f n i = at_most s _ _ i (λ h. (h.fitting.stack f n).actor)
-
-  pub firing-time-range : (s : State) (f : Running) → In f s.stack → Secure l s → f.timestamp + longest_delay
-      l.plan f.actor ≤ horizon
-  firing-time-range s f n i = at_most s _ _ i (λ h. (h.fitting.stack f n).timestamp)
-
-  pub output-actuator-range : (s : State) (o : Output) → In o s.outputs → Secure l s →
-      o.actuator < l.plan.actuators
-  output-actuator-range s o n i = at_most s _ _ i (λ h. (h.fitting.outputs o n).actuator)
-
-  pub output-time-range : (s : State) (o : Output) → In o s.outputs → Secure l s → o.timestamp ≤ horizon
-  output-time-range s o n i = at_most s _ _ i (λ h. (h.fitting.outputs o n).timestamp)
-
-  pub last-range : (s : State) (x t : ℕ) → s.last x ≡ Some t → Secure l s → t ≤ s.clock
-  last-range s x t e i = at_most s _ _ i (λ h. h.fitting.last x t e)

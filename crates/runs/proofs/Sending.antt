@@ -25,19 +25,19 @@ pub output-path : (o u : Output) → o.actuator ≡ u.actuator → o.timestamp �
     o ≡ u
 output-path o u p q r j = record { actuator = p j; timestamp = q j; value = r j }
 
--- e is what the firing g sends along one of its outlets
-pub record Sends (p : Plan) (g : Firing) (e : Event) : Type 0 where
+-- along one of its outlets the firing g sends v to k at time t
+pub record SendsTo (p : Plan) (g : Firing) (k : Sink) (v : ℤ) (t : ℕ) : Type 0 where
   pub outlet : ℕ
-  pub sink : wire p g.actor outlet ≡ Some (Inlet e.actor e.inlet)
-  pub value : port g.outlets outlet ≡ Some e.value
-  pub time : e.timestamp ≡ g.timestamp + delay p g.actor outlet
+  pub sink : wire p g.actor outlet ≡ Some k
+  pub value : port g.outlets outlet ≡ Some v
+  pub time : t ≡ g.timestamp + delay p g.actor outlet
 
--- o is what the firing g sends to an actuator
-pub record SendsOut (p : Plan) (g : Firing) (o : Output) : Type 0 where
-  pub outlet : ℕ
-  pub sink : wire p g.actor outlet ≡ Some (Actuator o.actuator)
-  pub value : port g.outlets outlet ≡ Some o.value
-  pub time : o.timestamp ≡ g.timestamp + delay p g.actor outlet
+-- the event e, and the output o, is what the firing g sends
+abbrev pub Sends : Plan → Firing → Event → Type 0
+Sends p g e = SendsTo p g (Inlet e.actor e.inlet) e.value e.timestamp
+
+abbrev pub SendsOut : Plan → Firing → Output → Type 0
+SendsOut p g o = SendsTo p g (Actuator o.actuator) o.value o.timestamp
 
 -- e is where an arrival lands
 pub record Lands (p : Plan) (y : Arrival) (e : Event) : Type 0 where
@@ -103,15 +103,16 @@ sent-out p g e m =
     record { outlet = h.0; sink = w.0; value = w.1; time = w.2 }
 
 module _ (p : Plan) (law : Lawful p) where
+  outlet-in : {g : Firing} {k : Sink} {v : ℤ} {t : ℕ} (h : SendsTo p g k v t) → In h.outlet ports
+  outlet-in h = in-ports h.outlet (proper p law (leads p law _ _ _ h.sink)).source.1
+
   pub sends-in : (g : Firing) (e : Event) → Sends p g e → In e (events_sent p g)
-  sends-in g e h = flat_map_in (event_from p g) ports e h.outlet
-      (in-ports h.outlet (proper p law (leads p law _ _ _ h.sink)).source.1)
-      (event_at-in _ _ _ e h.sink h.value h.time)
+  sends-in g e h =
+      flat_map_in (event_from p g) ports e h.outlet (outlet-in h) (event_at-in _ _ _ e h.sink h.value h.time)
 
   pub sends-out-in : (g : Firing) (o : Output) → SendsOut p g o → In o (outputs_sent p g)
-  sends-out-in g e h = flat_map_in (output_from p g) ports e h.outlet
-      (in-ports h.outlet (proper p law (leads p law _ _ _ h.sink)).source.1)
-      (output_at-in _ _ _ e h.sink h.value h.time)
+  sends-out-in g o h =
+      flat_map_in (output_from p g) ports o h.outlet (outlet-in h) (output_at-in _ _ _ o h.sink h.value h.time)
 
 -- room and time -----------------------------------------------------------------------
 

@@ -3,7 +3,6 @@ use Rattle.std.proofs.Common.{◌≡◌, ℕ, true, List, [], ◌∷◌, ◌++�
 use Rattle.std.specs.List.{flat_map}
 use Rattle.std.proofs.lemmas.List.{reverse-append, reverse-reverse, flat_map_more}
 use Rattle.fault.specs.declared.Fault.{Fault}
-use Rattle.line.specs.Plan.{Plan}
 use Rattle.line.specs.Times.{Line, Sound}
 use Rattle.banks.specs.Meaning.{Meaning}
 use Rattle.runs.specs.State.{State, arrived, advanced, started, delivered, closed, firing, outputs_sent, deadline_at}
@@ -11,7 +10,7 @@ use Rattle.runs.specs.State.{deadline_of}
 use Rattle.runs.specs.Calls.{Outcome, answer, after, arrive_verdict, advance_verdict, start_verdict, time_at}
 use Rattle.runs.specs.Calls.{finish_answer, finish_after}
 use Rattle.runs.specs.Runs.{Journal, Runs, opened, next, Timed, arrival_in, start_in, firing_in, output_in, posted_in}
-use Rattle.runs.specs.Runs.{all_at, tick, clock_after, arrivals, starts, written, handed, postings, handings}
+use Rattle.runs.specs.Runs.{all_at, tick, timed, clock_after, arrivals, starts, written, handed, postings, handings}
 use Rattle.runs.specs.declared.records.Running.{Running}
 use Rattle.runs.specs.declared.records.Output.{Output}
 use Rattle.runs.specs.declared.records.Started.{Started}
@@ -226,20 +225,12 @@ clock-last : (c : ℕ) (h : Journal) (x : Step) → clock_after c (h ++ (x ∷ [
 clock-last c [] x = refl
 clock-last c (y ∷ h) x = clock-last (tick c y.call y.answer) h x
 
-postings-last : (p : Plan) (c : ℕ) (h : Journal) (x : Step) → postings p c (h ++ (x ∷ [])) ≡ postings p c h ++ all_at
-    (clock_after c h) (posted_in p x.answer)
-postings-last p c [] x = append-nil _
-postings-last p c (y ∷ h) x =
-    ap (λ (k : List Timed). all_at c (posted_in p y.answer) ++ k)
-    (postings-last p (tick c y.call y.answer) h x)
-    ∙ sym (append_assoc (all_at c (posted_in p y.answer)) _ _)
-
-handings-last : (c : ℕ) (h : Journal) (x : Step) → handings c (h ++ (x ∷ [])) ≡ handings c h ++ all_at
-    (clock_after c h) (output_in x.answer)
-handings-last c [] x = append-nil _
-handings-last c (y ∷ h) x =
-    ap (λ (k : List Timed). all_at c (output_in y.answer) ++ k) (handings-last (tick c y.call y.answer) h x)
-    ∙ sym (append_assoc (all_at c (output_in y.answer)) _ _)
+timed-last : (f : Answer → List Output) (c : ℕ) (h : Journal) (x : Step) →
+    timed f c (h ++ (x ∷ [])) ≡ timed f c h ++ all_at (clock_after c h) (f x.answer)
+timed-last f c [] x = append-nil _
+timed-last f c (y ∷ h) x =
+    ap (λ (k : List Timed). all_at c (f y.answer) ++ k) (timed-last f (tick c y.call y.answer) h x)
+    ∙ sym (append_assoc (all_at c (f y.answer)) _ _)
 
 pub record Tale (l : Line) (m : Meaning) (h : Journal) (s : State) : Type 0 where
   pub run : Run l m s
@@ -276,10 +267,10 @@ tale l sound {m} (next {h} {s} {s'} x r e) =
       gone = flat_map-last (λ x. output_in x.answer) h x ∙ tell (handed h) (gone i.run) (output_in x.answer) _
           i.gone o.gone;
       clock = clock-last 0 h x ∙ ap (λ c. tick c x.call x.answer) i.clock ∙ sym o.clock;
-      posted = postings-last l.plan 0 h x
+      posted = timed-last (posted_in l.plan) 0 h x
           ∙ ap (λ c. postings l.plan 0 h ++ all_at c (posted_in l.plan x.answer)) i.clock
           ∙ tell (postings l.plan 0 h) (posted i.run) (all_at s.clock (posted_in l.plan x.answer)) _
           i.posted o.posted;
-      given = handings-last 0 h x ∙ ap (λ c. handings 0 h ++ all_at c (output_in x.answer)) i.clock
+      given = timed-last output_in 0 h x ∙ ap (λ c. handings 0 h ++ all_at c (output_in x.answer)) i.clock
           ∙ tell (handings 0 h) (given i.run) (all_at s.clock (output_in x.answer)) _ i.given o.given;
     }

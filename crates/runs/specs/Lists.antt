@@ -1,6 +1,8 @@
 -- Words on lists that the definitions of a run use.
-use Rattle.std.specs.Prelude.{ℕ, ◌≤◌, min, Bool, cond, List, [], ◌∷◌, Some, None, Option, ◌==◌, nat_lt}
+use Rattle.std.specs.Prelude.{ℕ, ◌≤◌, min, Bool, cond, List, [], ◌∷◌, Some, None, Option, ◌==◌}
 use Rattle.line.specs.Lists.{In}
+-- an element put into a list that is ordered by rank, behind those of its rank
+pub use Rattle.queue.specs.Order.{put}
 
 -- P holds of all that stand in the list
 abbrev pub Each : {A : Type 0} → (A → Type 0) → List A → Type 0
@@ -15,11 +17,6 @@ Pairs R (x ∷ xs) = Each (R x) xs × Pairs R xs
 abbrev pub keep : {A : Type 0} → (A → Bool) → List A → List A
 keep f [] = []
 keep f (x ∷ xs) = cond (f x) (x ∷ keep f xs) (keep f xs)
-
--- an element put into a list that is ordered by rank, behind those of its rank
-abbrev pub put : {A : Type 0} → (A → ℕ) → A → List A → List A
-put f x [] = x ∷ []
-put f x (y ∷ ys) = cond (nat_lt (f x) (f y)) (x ∷ (y ∷ ys)) (y ∷ put f x ys)
 
 -- several put in, one after another
 abbrev pub put_all : {A : Type 0} → (A → ℕ) → List A → List A → List A

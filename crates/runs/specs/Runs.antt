@@ -144,14 +144,17 @@ all_at c os = map (at_clock c) os
 abbrev pub posted_in : Plan → Answer → List Output
 posted_in p r = flat_map (outputs_sent p) (firing_in r)
 
--- all outputs posted, and all handed out, each with the clock then, from clock c on
+-- the outputs that f finds in each answer, each with the clock then, from clock c on
+abbrev pub timed : (Answer → List Output) → ℕ → Journal → List Timed
+timed f c [] = []
+timed f c (x ∷ h) = all_at c (f x.answer) ++ timed f (tick c x.call x.answer) h
+
+-- all outputs posted, and all handed out
 abbrev pub postings : Plan → ℕ → Journal → List Timed
-postings p c [] = []
-postings p c (x ∷ h) = all_at c (posted_in p x.answer) ++ postings p (tick c x.call x.answer) h
+postings p = timed (posted_in p)
 
 abbrev pub handings : ℕ → Journal → List Timed
-handings c [] = []
-handings c (x ∷ h) = all_at c (output_in x.answer) ++ handings (tick c x.call x.answer) h
+handings = timed output_in
 
 -- those of one actuator
 abbrev pub for_actuator : ℕ → List Timed → List Timed
