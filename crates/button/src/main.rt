@@ -1,21 +1,17 @@
 // The download button: reports on one or two project images, and says whether there is anything to download.
 #![tactic(auto)]
 
-use line::parts::{Sink, Source};
+use inputs::{arguments, read_or_empty, read_project};
+use line::parts::{Actor, Sink, Source};
 use project::project::Project;
-use std::{env, fs};
 
 fn main(rt: HostRuntime) -> anyhow::Result<()> {
-    let mut names = Vec::new(rt.alloc());
-    for name in env::args(&rt)?.skip(1) {
-        names.push(name)?;
-    }
-    match names.as_slice() {
+    match arguments(&rt)?.as_slice() {
         [only] => {
-            examine(&rt, only.as_str(), &mut Project::fresh())?;
+            examine(&rt, only)?;
             Ok(())
         }
-        [old, new] => compare(&rt, old.as_str(), new.as_str()),
+        [old, new] => compare(&rt, old, new),
         _ => explain(&rt),
     }
 }
@@ -28,41 +24,24 @@ fn explain(rt: &HostRuntime) -> anyhow::Result<()> {
     Ok(())
 }
 
-// A file that does not open counts as empty.
-fn load(rt: &HostRuntime, name: &str) -> anyhow::Result<Vec<u8>> {
-    match fs::read(rt, name) {
-        Ok(bytes) => Ok(bytes),
-        Err(_) => {
-            eprintln!(rt; "{name}: does not open, and counts as empty")?;
-            Ok(Vec::new(rt.alloc()))
-        }
-    }
-}
-
-// Reads an image into the project and reports on it; gives the image's length where it is accepted.
-fn examine(rt: &HostRuntime, name: &str, project: &mut Project) -> anyhow::Result<Option<usize>> {
-    let bytes = load(rt, name)?;
-    let size = bytes.len();
-    match project.read(bytes.as_slice()) {
-        Ok(()) => {
-            println!(rt; "{name}: accepted, {size} bytes")?;
-            report(rt, project)?;
-            Ok(Some(size))
-        }
-        Err(fault) => {
-            let words = fault.words();
-            println!(rt; "{name}: {fault}: {words}")?;
-            Ok(None)
-        }
-    }
+// Reports on an image; gives its project and its length where it is accepted.
+fn examine(rt: &HostRuntime, name: &str) -> anyhow::Result<Option<(Project, usize)>> {
+    let image = read_or_empty(rt, name)?;
+    let Some(project) = read_project(rt, name, &image)? else {
+        return Ok(None);
+    };
+    let size = image.len();
+    println!(rt; "{name}: accepted, {size} bytes")?;
+    report(rt, &project)?;
+    Ok(Some((project, size)))
 }
 
 fn report(rt: &HostRuntime, project: &Project) -> anyhow::Result<()> {
     for sensor in 0..project.sensors() {
         report_sensor(rt, project, sensor)?;
     }
-    for number in 0..project.actors().len() {
-        report_actor(rt, project, number)?;
+    for (number, actor) in project.actors().iter().enumerate() {
+        report_actor(rt, project, number, actor)?;
     }
     for actuator in 0..project.actuators() {
         report_actuator(rt, project, actuator)?;
@@ -80,17 +59,20 @@ fn report_sensor(rt: &HostRuntime, project: &Project, sensor: u8) -> anyhow::Res
     Ok(())
 }
 
-fn report_actor(rt: &HostRuntime, project: &Project, number: usize) -> anyhow::Result<()> {
-    if let Some(actor) = project.actor(number) {
-        let kind = actor.kind.name();
-        let parameter = actor.parameter;
-        let delay = project.delay(number, 0);
-        let wait = project.wait(number).unwrap_or(0);
-        let deadline = project.deadline(number).unwrap_or(0);
-        println!(rt;
-            "  actor {number}: {kind}, parameter {parameter}, delay {delay}, wait {wait}, deadline {deadline}"
-        )?;
-    }
+fn report_actor(
+    rt: &HostRuntime,
+    project: &Project,
+    number: usize,
+    actor: &Actor,
+) -> anyhow::Result<()> {
+    println!(rt;
+        "  actor {number}: {}, parameter {}, delay {}, wait {}, deadline {}",
+        actor.kind.name(),
+        actor.parameter,
+        project.delay(number, 0),
+        project.wait(number).unwrap_or(0),
+        project.deadline(number).unwrap_or(0)
+    )?;
     Ok(())
 }
 
@@ -102,18 +84,13 @@ fn report_actuator(rt: &HostRuntime, project: &Project, actuator: u8) -> anyhow:
 }
 
 fn compare(rt: &HostRuntime, old: &str, new: &str) -> anyhow::Result<()> {
-    let mut before = Project::fresh();
-    let mut after = Project::fresh();
-    let read = examine(rt, old, &mut before)?;
-    let size = examine(rt, new, &mut after)?;
-    match (read, size) {
-        (Some(_), Some(size)) => {
-            if before.same_line(&after) {
-                println!(rt; "unchanged: nothing to download")?;
-            } else {
-                println!(rt; "changed: {size} bytes to download")?;
-            }
+    let before = examine(rt, old)?;
+    let after = examine(rt, new)?;
+    match (&before, &after) {
+        (Some((before, _)), Some((after, _))) if before.same_line(after) => {
+            println!(rt; "unchanged: nothing to download")?;
         }
+        (Some(_), Some((_, size))) => println!(rt; "changed: {size} bytes to download")?,
         _ => println!(rt; "refused: nothing downloaded")?,
     }
     Ok(())

@@ -1,19 +1,19 @@
 // Reads an image and writes the project back, each as often as asked: for counting instructions.
 #![tactic(auto)]
 
+use inputs::arguments;
 use project::project::Project;
-use std::{env, fs};
+use std::fs;
+
+// The length of the longest image.
+const LONGEST: usize = 937;
 
 fn main(rt: HostRuntime) -> anyhow::Result<()> {
-    let mut words = Vec::new(rt.alloc());
-    for word in env::args(&rt)?.skip(1) {
-        words.push(word)?;
-    }
-    match words.as_slice() {
+    match arguments(&rt)?.as_slice() {
         [name, reads, writes] => {
-            let reads = reads.as_str().parse::<u32>().unwrap_or(0);
-            let writes = writes.as_str().parse::<u32>().unwrap_or(0);
-            measure(&rt, name.as_str(), reads, writes)
+            let reads = reads.parse::<u32>().unwrap_or(0);
+            let writes = writes.parse::<u32>().unwrap_or(0);
+            measure(&rt, name, reads, writes)
         }
         _ => {
             println!(rt;
@@ -28,23 +28,22 @@ fn measure(rt: &HostRuntime, name: &str, reads: u32, writes: u32) -> anyhow::Res
     let image = fs::read(rt, name)?;
     let mut project = Project::fresh();
     for _ in 0..reads {
-        if let Err(fault) = project.read(image.as_slice()) {
+        if let Err(fault) = project.read(&image) {
             println!(rt; "{name}: {fault}")?;
             return Ok(());
         }
     }
-    let buffer = write_often(&project, writes);
     // Every byte is looked at, so that no write can be left out.
-    let mut sum = 0u64;
-    for b in buffer {
-        sum = sum.wrapping_add(u64::from(b));
-    }
+    let sum = written(&project, writes)
+        .iter()
+        .fold(0u64, |sum, byte| sum.wrapping_add(u64::from(*byte)));
     println!(rt; "{name}: read {reads} times, written {writes} times, bytes add up to {sum}")?;
     Ok(())
 }
 
-fn write_often(project: &Project, writes: u32) -> [u8; 937] {
-    let mut buffer = [0; 937];
+// The project's image, written so often, with zeros behind it.
+fn written(project: &Project, writes: u32) -> [u8; LONGEST] {
+    let mut buffer = [0; LONGEST];
     for _ in 0..writes {
         let _ = project.write(&mut buffer);
     }

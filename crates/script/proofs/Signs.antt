@@ -1,7 +1,8 @@
 -- Reading a number that may have a minus.
-use Rattle.std.proofs.Common.{◌≡◌, ℕ, ◌^◌, ◌<◌, ◌≤◌, List, ◌∷◌, ℤ, pos, neg_ℤ, Some, None, Option, sym, refl, ◌∙◌, subst, arith}
+use Rattle.std.proofs.Common.{◌≡◌, ℕ, ◌-◌, length, get_or, take, drop, ◌^◌, ◌<◌, ◌≤◌, List, ◌∷◌, ℤ, pos, neg_ℤ, Some, None, Option, sym, refl, ◌∙◌, subst, arith}
 use Rattle.std.specs.Option.{SomeIff}
 use Rattle.std.specs.List.{AllByRecursion}
+use Rattle.std.proofs.lemmas.List.{drop_more, take_rest}
 use Rattle.script.specs.Decimals.{Digit, Decimal, Number, Signed, plain, minus}
 use Rattle.script.specs.Parts.{Reads}
 
@@ -27,12 +28,11 @@ pub plain-parts : (bs : List ℕ) (z : ℤ) → ((ds : List ℕ) → bs ≡ 45 �
 plain-parts bs z no_minus (plain {ds} {n} d fits) = (n, d, fits, refl)
 plain-parts _ _ no_minus (minus {ds} d fits) = absurd (no_minus ds refl)
 
-module _ (bs ds : List ℕ) (e : bs ≡ 45 ∷ ds) where
-  pub minus-none : ((n : ℕ) → Number ds n → ⊥) → (z : ℤ) → Signed bs z → ⊥
-  minus-none none z h =
-      let p = minus-parts bs ds z e h in
-      none p.0 (record { decimal = p.1; fits = omega (arith, p.2) })
+-- what stands behind the first byte
+pub first-is : (bs : List ℕ) (b : ℕ) → 0 < length bs → get_or bs 0 0 ≡ b → bs ≡ b ∷ take (length bs - 1) (drop 1 bs)
+first-is bs b some e = drop_more bs 0 0 some ∙ λ i. e i ∷ sym (take_rest bs 1) i
 
+module _ (bs ds : List ℕ) (e : bs ≡ 45 ∷ ds) where
   pub minus-reads : (n : ℕ) (r : Option ℤ) → Number ds n → SomeIff r (n ≤ 2 ^ 31) (neg_ℤ (pos n)) → Reads (Signed bs) r
   minus-reads n None is not = λ z h.
       let p = minus-parts bs ds z e h in
@@ -41,11 +41,6 @@ module _ (bs ds : List ℕ) (e : bs ≡ 45 ∷ ds) where
       rw (e, fits.1) (minus is.decimal fits.0)
 
 module _ (bs : List ℕ) (no_minus : (ds : List ℕ) → bs ≡ 45 ∷ ds → ⊥) where
-  pub plain-none : ((n : ℕ) → Number bs n → ⊥) → (z : ℤ) → Signed bs z → ⊥
-  plain-none none z h =
-      let p = plain-parts bs z no_minus h in
-      none p.0 (record { decimal = p.1; fits = omega (arith, p.2) })
-
   pub plain-reads : (n : ℕ) (r : Option ℤ) → Number bs n → SomeIff r (n < 2 ^ 31) (pos n) → Reads (Signed bs) r
   plain-reads n None is not = λ z h.
       let p = plain-parts bs z no_minus h in

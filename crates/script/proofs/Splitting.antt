@@ -1,21 +1,13 @@
 -- The first space of a text.
-use Rattle.std.proofs.Common.{◌≡◌, ℕ, ◌+◌, ◌-◌, ◌<◌, List, [], ◌∷◌, ◌++◌, length, get_or, take, drop, ℤ, sym, refl, ap, ◌∙◌, arith}
-use native.Mathlib.Nat.{sub-zero}
+use Rattle.std.proofs.Common.{◌≡◌, ℕ, List, [], ◌∷◌, ◌++◌, ℤ, Some, None, Option, codes, sym, refl, ap, ◌∙◌, arith, rules}
 use Rattle.std.specs.List.{AllByRecursion}
-use Rattle.std.proofs.lemmas.List.{drop_more, take_rest, take-append-drop}
 use Rattle.std.proofs.ByRecursion.{All-weaker}
 use Rattle.script.specs.Decimals.{Digit, Number, Signed}
-use Rattle.script.specs.Parts.{NoSpace, Split}
-use Rattle.script.specs.Spelling.{Arrival}
-
--- a space at i, and none before it
-pub split_at : (bs : List ℕ) (i : ℕ) → i < length bs → get_or bs i 0 ≡ 32 → AllByRecursion NoSpace (take i bs)
-    → Split bs (take (i - 0) bs) (take (length bs - (i + 1)) (drop (i + 1) bs))
-split_at bs i within space none =
-    rw (take_rest bs (i + 1), sub-zero i) (record {
-      whole = sym (take-append-drop i bs) ∙ ap (λ l. take i bs ++ l) (drop_more bs i 0 within ∙ ap (λ b. b ∷ drop (i + 1) bs) space);
-      first = none;
-    })
+use Rattle.runs.specs.declared.records.Call.{Call}
+use Rattle.runs.specs.declared.records.Call.TheVariants.{Arrive, Advance, Pick, Start, Finish, Deliver, Report}
+use Rattle.runs.specs.declared.records.Call.TheVariants.{Close}
+use Rattle.script.specs.Parts.{NoSpace, Split, Reads, WithArguments}
+use Rattle.script.specs.Spelling.{Arrival, Spells}
 
 pub no-spaces : {ds : List ℕ} {n : ℕ} → Number ds n → AllByRecursion NoSpace ds
 no-spaces {ds} is = All-weaker Digit NoSpace (λ c d e. omega arith) ds is.decimal.digits
@@ -35,6 +27,50 @@ same-split (c ∷ a) (d ∷ s) b r p q e =
     let step = same-split a s b r p.1 q.1 rest in
     let front : c ≡ d = cc in
     (cc step.0, step.1)
+
+-- a word and what stands behind it spell a call with arguments, where there is a space
+module _ (bs w a : List ℕ) (cut : Split bs w a) where
+  -- the word of a text that begins with v and a space
+  word-is : (v x : List ℕ) → AllByRecursion NoSpace v → bs ≡ v ++ (32 ∷ x) → (w ≡ v) × (a ≡ x)
+  word-is v x none e = same-split w v a x cut.first none (sym cut.whole ∙ e)
+
+  no-word : AllByRecursion NoSpace bs → ⊥
+  no-word none = spaceless w a (rw cut.whole at none)
+
+  parted : (c : Call) → Spells bs c → WithArguments w a c
+  parted (Advance n) h =
+      let p = word-is (codes "advance") h.0 (search rules) h.1 in
+      (p.0, rw p.1 h.2)
+  parted (Arrive i j z) h =
+      let p = word-is (codes "arrive") h.0 (search rules) h.1 in
+      (p.0, rw p.1 h.2)
+  parted (Start n) h =
+      let p = word-is (codes "start") h.0 (search rules) h.1 in
+      (p.0, rw p.1 h.2)
+  parted Pick h = no-word (rw h (search rules))
+  parted Finish h = no-word (rw h (search rules))
+  parted Deliver h = no-word (rw h (search rules))
+  parted Report h = no-word (rw h (search rules))
+  parted Close h = no-word (rw h (search rules))
+
+  joined : (c : Call) → WithArguments w a c → Spells bs c
+  joined (Advance n) h = (a, cut.whole ∙ ap (λ v. v ++ (32 ∷ a)) h.0, h.1)
+  joined (Arrive i j z) h = (a, cut.whole ∙ ap (λ v. v ++ (32 ∷ a)) h.0, h.1)
+  joined (Start n) h = (a, cut.whole ∙ ap (λ v. v ++ (32 ∷ a)) h.0, h.1)
+  joined Pick h = absurd h
+  joined Finish h = absurd h
+  joined Deliver h = absurd h
+  joined Report h = absurd h
+  joined Close h = absurd h
+
+  pub with-arguments : (r : Option Call) → Reads (WithArguments w a) r → Reads (Spells bs) r
+  with-arguments None none = λ c h. none c (parted c h)
+  with-arguments (Some c) h = joined c h
+
+-- the word arrive tells that the call is an arrival
+pub arrival-is : (bs : List ℕ) (c : Call) → WithArguments (codes "arrive") bs c →
+    (i : ℕ) × (j : ℕ) × (z : ℤ) × (c ≡ Arrive i j z) × Arrival bs i j z
+arrival-is bs c h = grind arith
 
 module _ (bs : List ℕ) (i j : ℕ) (z : ℤ) (h : Arrival bs i j z) where
   pub no-first : AllByRecursion NoSpace bs → ⊥

@@ -1,13 +1,24 @@
 // Calls that a text spells.
-ghost use Rattle.script.specs.Parts.{HasArguments, Reads};
-ghost use Rattle.script.specs.Spelling.{Spells, Arrival};
+ghost use Rattle.std.specs.Prelude.{codes};
+ghost use Rattle.script.specs.Parts.{HasArguments, Reads, WithArguments};
+ghost use Rattle.script.specs.Spelling.{Spells};
 
 use crate::numbers::{number, signed};
-use crate::words::{after, split};
+use crate::words::split;
 use runs::records::Call;
 
+// The call that the text spells.
+pub(crate) fn read_call(text: &[u8]) -> Option<Call>
+    ensures { Reads (Spells text.now) result }
+{
+    match split(text) {
+        Some((word, arguments)) => call_with_arguments(word, arguments),
+        None => bare_call(text),
+    }
+}
+
 // The call that is a word alone.
-pub(crate) fn bare_call(text: &[u8]) -> Option<Call>
+fn bare_call(text: &[u8]) -> Option<Call>
     ensures { Reads (λ c. Spells text.now c × (HasArguments c → ⊥)) result }
 {
     match text {
@@ -20,29 +31,27 @@ pub(crate) fn bare_call(text: &[u8]) -> Option<Call>
     }
 }
 
-// The sensor, the timestamp and the value of an arrival.
-fn arrival(text: &[u8]) -> Option<(u64, u64, i32)>
-    ensures { Reads (λ a. Arrival text.now a.0 a.1 a.2) result }
+// The call that is a word with arguments behind it.
+fn call_with_arguments(word: &[u8], arguments: &[u8]) -> Option<Call>
+    ensures { Reads (WithArguments word.now arguments.now) result }
 {
-    let (sensor, rest) = split(text)?;
-    let (timestamp, value) = split(rest)?;
-    Some((number(sensor)?, number(timestamp)?, signed(value)?))
+    match word {
+        b"advance" => number(arguments).map(Call::Advance),
+        b"start" => number(arguments).map(Call::Start),
+        b"arrive" => arrival(arguments),
+        _ => None,
+    }
 }
 
-// The call that is a word with arguments behind it.
-pub(crate) fn call_with_arguments(text: &[u8]) -> Option<Call>
-    ensures { Reads (λ c. Spells text.now c × HasArguments c) result }
+// An arrival: its sensor, timestamp and value are the arguments.
+fn arrival(arguments: &[u8]) -> Option<Call>
+    ensures { Reads (WithArguments (codes "arrive") arguments.now) result }
 {
-    if let Some(clock) = after(text, b"advance ") {
-        return Some(Call::Advance(number(clock)?));
-    }
-    if let Some(actor) = after(text, b"start ") {
-        return Some(Call::Start(number(actor)?));
-    }
-    let (sensor, timestamp, value) = arrival(after(text, b"arrive ")?)?;
+    let (sensor, rest) = split(arguments)?;
+    let (timestamp, value) = split(rest)?;
     Some(Call::Arrive {
-        sensor,
-        timestamp,
-        value,
+        sensor: number(sensor)?,
+        timestamp: number(timestamp)?,
+        value: signed(value)?,
     })
 }

@@ -7,10 +7,10 @@ mod words;
 
 ghost use Rattle.script.specs.Spelling.{Means, OneCall, OneMeaning};
 
-use calls::{bare_call, call_with_arguments};
+use calls::read_call;
 use runs::records::Call;
 
-// What a line of a script is.
+// What a line of a script is. Its three named cases are plainer than an Option of a Result.
 #[derive(Clone, Copy, PartialEq, Eq, Debug)]
 pub enum Line {
     Passed,
@@ -25,13 +25,7 @@ pub fn read_line(text: &[u8]) -> Line
     if let [] | [b'#', ..] = text {
         return Line::Passed;
     }
-    if let Some(call) = bare_call(text) {
-        return Line::Call(call);
-    }
-    match call_with_arguments(text) {
-        Some(call) => Line::Call(call),
-        None => Line::NotACall,
-    }
+    read_call(text).map_or(Line::NotACall, Line::Call)
 }
 
 // A text spells one call at most, and a line has one meaning: its contract is what is proved.

@@ -4,8 +4,6 @@ ghost use Rattle.std.specs.Option.{SomeIff};
 ghost use Rattle.script.specs.Decimals.{Digit, Number, Signed};
 ghost use Rattle.script.specs.Parts.{Reads};
 
-use crate::words::after;
-
 // The number with one more digit behind its own.
 fn behind(n: u64, code: u8) -> Option<u64>
     ensures { SomeIff result (Digit code × (n * 10 + (code - 48) < 2 ^ 64)) (n * 10 + (code - 48)) }
@@ -23,11 +21,7 @@ pub(crate) fn number(digits: &[u8]) -> Option<u64>
     if digits.is_empty() {
         return None;
     }
-    let mut n = 0;
-    for code in digits {
-        n = behind(n, *code)?;
-    }
-    Some(n)
+    digits.iter().try_fold(0, |n, code| behind(n, *code))
 }
 
 // The number below 0 by as much, where it fits.
@@ -41,8 +35,8 @@ fn opposite(n: u64) -> Option<i32>
 pub(crate) fn signed(text: &[u8]) -> Option<i32>
     ensures { Reads (Signed text.now) result }
 {
-    match after(text, b"-") {
-        Some(digits) => opposite(number(digits)?),
-        None => i32::try_from(number(text)?).ok(),
+    match text {
+        [b'-', digits @ ..] => opposite(number(digits)?),
+        _ => i32::try_from(number(text)?).ok(),
     }
 }

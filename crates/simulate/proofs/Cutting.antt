@@ -1,76 +1,68 @@
 -- A script cut into its lines.
-use Rattle.std.proofs.Common.{◌≡◌, ℕ, ◌+◌, ◌-◌, ◌<◌, ◌≤◌, cond, List, [], ◌∷◌, ◌++◌, map, length, get_or, take, drop, is_ok, Ok, Result, sym, refl, ap, ◌∙◌, subst, append_assoc, append-nil, arith, Bor}
-use Rattle.std.specs.List.{AllByRecursion}
-use Rattle.std.proofs.lemmas.List.Edits.{between_none, between_more}
-use Rattle.std.proofs.ByRecursion.{All-push}
-use Rattle.std.proofs.lemmas.List.{drop_more, drop_all, drop-drop, map_push, take-append-drop, take_rest, length-drop}
-use Rattle.std.proofs.lemmas.Slice.{between_to_end, pushed}
+use Rattle.std.proofs.Common.{◌≡◌, ℕ, Bool, true, false, cond, List, [], ◌∷◌, ◌++◌, ◌==◌, ◌<◌, map, length, Option, sym, refl, ap, ◌∙◌, arith, Bor, MutBor}
+use mathlib.Core.Logic.{inl, inr}
+use denote.Param.Members.{Once}
+use Rattle.std.specs.Fn.{FnOnceReturnsAtMut}
+use Rattle.std.specs.List.{slice_split, onto_first}
+use Rattle.std.specs.List.Retain.{PopsIf}
 use Rattle.std.proofs.lemmas.Bool.{ne_eqb}
-use Rattle.simulate.specs.Lines.{lines_of}
+use Rattle.std.proofs.lemmas.List.{map_push}
+use Rattle.std.proofs.lemmas.List.Splits.{length-slice_split}
+use Rattle.simulate.specs.Lines.{begun, lines_of}
 
--- any code but 10, which ends a line
-abbrev pub Inside : ℕ → Type 0
-Inside c = c ≡ 10 → ⊥
+-- the parts, less a last one that is empty
+abbrev trimmed : List (List ℕ) → List (List ℕ)
+trimmed [] = []
+trimmed (l ∷ []) = cond (length l == 0) [] (l ∷ [])
+trimmed (l ∷ m ∷ ls) = l ∷ trimmed (m ∷ ls)
 
-line_first : (xs rest : List ℕ) → AllByRecursion Inside xs → lines_of (xs ++ (10 ∷ rest)) ≡ xs ∷ lines_of rest
-line_first [] rest h = refl
-line_first (x ∷ xs) rest h = rw (ne_eqb x 10 h.0, line_first xs rest h.1)
+-- one more byte in front
+before : (c : ℕ) (ends : Bool) (ls : List (List ℕ)) → 0 < length ls →
+    trimmed (cond ends ([] ∷ ls) (onto_first c ls)) ≡ cond ends ([] ∷ trimmed ls) (begun c (trimmed ls))
+before c ends [] some = absurd (omega arith)
+before c true (l ∷ ls) some = refl
+before c false ([] ∷ []) some = refl
+before c false ((b ∷ l) ∷ []) some =
+    rw (ne_eqb (length (b ∷ l)) 0 (λ e. omega arith), ne_eqb (length (c ∷ b ∷ l)) 0 (λ e. omega arith))
+before c false (l ∷ m ∷ ls) some = refl
 
-line-last : (xs : List ℕ) → AllByRecursion Inside xs → 0 < length xs → lines_of xs ≡ xs ∷ []
-line-last [] h some = absurd (omega arith)
-line-last (x ∷ []) h some = rw (ne_eqb x 10 h.0)
-line-last (x ∷ y ∷ xs) h some = rw (ne_eqb x 10 h.0, line-last (y ∷ xs) h.1 (omega arith))
+lines-trimmed : (bs : List ℕ) → lines_of bs ≡ trimmed (slice_split (λ b. b == 10) bs)
+lines-trimmed [] = refl
+lines-trimmed (c ∷ cs) =
+    let parts = slice_split (λ b. b == 10) cs in
+    ap (λ ls. cond (c == 10) ([] ∷ ls) (begun c ls)) (lines-trimmed cs) ∙
+    sym (before c (c == 10) parts (omega (arith, length-slice_split (λ b. b == 10) cs)))
 
--- one more text
-pub texts-pushed : {T E : Type 0} {after : List (Bor (List ℕ))} {r : Result T E} {x : T}
-    (before : List (Bor (List ℕ))) (l : Bor (List ℕ)) → r ≡ Ok x → after ≡ cond (is_ok r) (before ++ (l ∷ [])) before →
-    map (λ y. y.now) after ≡ map (λ y. y.now) before ++ (l.now ∷ [])
-texts-pushed before l ok e = ap (map (λ y. y.now)) (pushed (l ∷ []) refl ok e) ∙ map_push (λ y. y.now) before l
+front : (l : List ℕ) (b : Bool) (ls ms : List (List ℕ)) → l ∷ cond b ls ms ≡ cond b (l ∷ ls) (l ∷ ms)
+front l true ls ms = refl
+front l false ls ms = refl
 
--- ls are the lines before start, and no line ends from there to i
-pub record Cut (bs : List ℕ) (ls : List (List ℕ)) (start i : ℕ) : Type 0 where
-  pub within : start ≤ i
-  pub inside : AllByRecursion Inside (take (i - start) (drop start bs))
-  pub whole : lines_of bs ≡ ls ++ lines_of (drop start bs)
+trimmed-push : (ls : List (List ℕ)) (l : List ℕ) → trimmed (ls ++ (l ∷ [])) ≡ cond (length l == 0) ls (ls ++ (l ∷ []))
+trimmed-push [] l = refl
+trimmed-push (m ∷ []) l = front m (length l == 0) [] (l ∷ [])
+trimmed-push (m ∷ n ∷ ls) l =
+    ap (λ ks. m ∷ ks) (trimmed-push (n ∷ ls) l) ∙ front m (length l == 0) (n ∷ ls) (n ∷ ls ++ (l ∷ []))
 
-pub no_line : (bs : List ℕ) → Cut bs [] 0 0
-no_line bs = record { within = omega arith; inside = tt; whole = refl }
+texts-left : (b : Bool) (ls : List (Bor (List ℕ))) (l : Bor (List ℕ)) →
+    map (λ x. x.now) (cond b ls (ls ++ (l ∷ []))) ≡ cond b (map (λ x. x.now) ls) (map (λ x. x.now) ls ++ (l.now ∷ []))
+texts-left true ls l = refl
+texts-left false ls l = map_push (λ x. x.now) ls l
 
-module _ (bs : List ℕ) (ls : List (List ℕ)) (start i : ℕ) (cut : Cut bs ls start i) where
-  -- what is left, from i on
-  rest : drop start bs ≡ take (i - start) (drop start bs) ++ drop i bs
-  rest =
-      let at : start + (i - start) ≡ i = omega (arith, cut.within) in
-      sym (take-append-drop (i - start) (drop start bs)) ∙
-      ap (λ l. take (i - start) (drop start bs) ++ l) (drop-drop (i - start) start bs ∙ ap (λ k. drop k bs) at)
-
-  pub line-ends : i < length bs → get_or bs i 0 ≡ 10 → Cut bs (ls ++ (take (i - start) (drop start bs) ∷ [])) (i + 1) (i + 1)
-  line-ends lt ten =
-      let tail = drop_more bs i 0 lt ∙ ap (λ c. c ∷ drop (i + 1) bs) ten in
-      let line = take (i - start) (drop start bs) in
-      let cutting = ap lines_of (rest ∙ ap (λ l. line ++ l) tail) ∙ line_first line (drop (i + 1) bs) cut.inside in
-      record {
-        within = omega arith;
-        inside = rw (between_none bs (i + 1)) tt;
-        whole = cut.whole ∙ ap (λ l. ls ++ l) cutting ∙ sym (append_assoc ls (line ∷ []) (lines_of (drop (i + 1) bs)));
-      }
-
-  pub line-goes-on : i < length bs → (get_or bs i 0 ≡ 10 → ⊥) → Cut bs ls start (i + 1)
-  line-goes-on lt other = record {
-    within = omega (arith, cut.within);
-    inside = rw (between_more bs start i 0 cut.within lt)
-        (All-push Inside (take (i - start) (drop start bs)) (get_or bs i 0) cut.inside other);
-    whole = cut.whole;
-  }
-
-  pub last_line : length bs ≤ i → start < length bs → ls ++ (take (length bs - start) (drop start bs) ∷ []) ≡ lines_of bs
-  last_line end more =
-      let line = take (length bs - start) (drop start bs) in
-      let all : line ≡ drop start bs = take_rest bs start in
-      let front : take (i - start) (drop start bs) ≡ drop start bs = between_to_end bs start i end in
-      let inside : AllByRecursion Inside line = subst (AllByRecursion Inside) (front ∙ sym all) cut.inside in
-      let some : 0 < length line = rw (all, length-drop) (omega arith) in
-      sym (cut.whole ∙ ap (λ l. ls ++ l) (ap lines_of (sym all) ∙ line-last line inside some))
-
-  pub no_more : length bs ≤ i → length bs ≤ start → ls ≡ lines_of bs
-  no_more end none = sym (append-nil ls) ∙ ap (λ l. ls ++ lines_of l) (sym (drop_all start bs none)) ∙ sym cut.whole
+-- what is left of the parts of bs once a last one that is empty has been taken off
+pub left-lines : {F : Type 0} {g : Once F (MutBor (Bor (List ℕ)) × Unit {0}) (Bool × (MutBor (Bor (List ℕ)) × Unit {0}))}
+    (bs : List ℕ) (parts left : List (Bor (List ℕ))) (f : F) (r : Option (Bor (List ℕ))) →
+    map (λ l. l.now) parts ≡ slice_split (λ b. b == 10) bs → PopsIf g parts left f r →
+    ((x y : Bor (List ℕ)) (b : Bool) → FnOnceReturnsAtMut g f x b y → (b ≡ (length x.now == 0)) × (y ≡ x)) →
+    map (λ l. l.now) left ≡ lines_of bs
+left-lines bs parts left f r cut (inl none) asks =
+    let parted : [] ≡ slice_split (λ b. b == 10) bs = ap (map (λ l. l.now)) (sym none.0) ∙ cut in
+    absurd (omega (arith, length-slice_split (λ b. b == 10) bs, ap length parted))
+left-lines bs parts left f r cut (inr some) asks =
+    let xs = some.0 in
+    let x = some.1 in
+    let told = asks x some.3 some.2 some.5 in
+    let whole : map (λ l. l.now) xs ++ (x.now ∷ []) ≡ slice_split (λ b. b == 10) bs =
+    sym (map_push (λ l. l.now) xs x) ∙ ap (map (λ l. l.now)) (sym some.4) ∙ cut in
+    ap (map (λ l. l.now)) (some.7 ∙ λ i. cond (told.0 i) xs (xs ++ (told.1 i ∷ []))) ∙
+    texts-left (length x.now == 0) xs x ∙
+    sym (lines-trimmed bs ∙ ap trimmed (sym whole) ∙ trimmed-push (map (λ l. l.now) xs) x.now)

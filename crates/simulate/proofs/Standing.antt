@@ -1,7 +1,7 @@
 -- What stands on the lines of a script, line by line.
-use Rattle.std.proofs.Common.{◌≡◌, ℕ, ◌+◌, ◌<◌, ◌≤◌, Bool, true, false, cond, ◌||◌, List, [], ◌∷◌, ◌++◌, map, length, get_or, take, drop, Some, None, Option, sym, refl, ap, ◌∙◌, append_assoc, append-nil, arith, Bor}
-use Rattle.std.specs.Option.{option_to_list}
-use Rattle.std.proofs.lemmas.List.{drop_more, drop_all, take_more, get_or-map, length-map}
+use Rattle.std.proofs.Common.{◌≡◌, ℕ, ◌+◌, ◌<◌, ◌≤◌, Bool, true, false, cond, ◌||◌, List, [], ◌∷◌, ◌++◌, map, length, get_or, drop, Some, None, Option, sym, refl, ap, ◌∙◌, append_assoc, append-nil, arith, Bor}
+use Rattle.std.specs.List.{cons_option}
+use Rattle.std.proofs.lemmas.List.{drop_more, drop_all, get_or-map, length-map}
 use Rattle.runs.specs.declared.records.Call.{Call}
 use Rattle.script.specs.Spelling.{PassedOver}
 use Rattle.simulation.specs.Calls.{when_closed, existing}
@@ -39,29 +39,10 @@ all_lines ls es closed i sofar ts same none =
     let long : length ts ≡ length ls = sym (length-map ts (λ y. y.now)) ∙ ap length same in
     rw append-nil at (sofar.on [] (rw (drop_all i ls (omega arith)) end))
 
-calls-append : (es fs : List Entry) → calls_of (es ++ fs) ≡ calls_of es ++ calls_of fs
-calls-append [] fs = refl
-calls-append (e ∷ es) fs = ap (λ l. option_to_list e.call ++ l) (calls-append es fs) ∙
-    sym (append_assoc (option_to_list e.call) (calls_of es) (calls_of fs))
-
--- the calls among the first entries, with or without one more
-module _ (es : List Entry) (i : ℕ) (e : Entry) (within : i < length es) where
-  more : calls_of (take (i + 1) es) ≡ calls_of (take i es) ++ option_to_list (get_or es i e).call
-  more =
-      let one = get_or es i e in
-      ap calls_of (take_more es i e within) ∙ calls-append (take i es) (one ∷ []) ∙
-      ap (λ l. calls_of (take i es) ++ l) (append-nil (option_to_list one.call))
-
-  pub one_more : (c : Call) → (get_or es i e).call ≡ Some c → calls_of (take (i + 1) es) ≡ calls_of (take i es) ++ (c ∷ [])
-  one_more c is = more ∙ ap (λ o. calls_of (take i es) ++ option_to_list o) is
-
-  pub none_more : (get_or es i e).call ≡ None → calls_of (take (i + 1) es) ≡ calls_of (take i es)
-  none_more is = more ∙ ap (λ o. calls_of (take i es) ++ option_to_list o) is ∙ append-nil (calls_of (take i es))
-
 -- every call among the entries is one that the runtime has
 entry-performed : (closed : Bool) (l : List ℕ) (o : Option Call) (cs : List Call) → Says closed l o →
     cond (closed || closes o) (when_closed cs) (existing cs) ≡ cs →
-    cond closed (when_closed (option_to_list o ++ cs)) (existing (option_to_list o ++ cs)) ≡ option_to_list o ++ cs
+    cond closed (when_closed (cons_option o cs)) (existing (cons_option o cs)) ≡ cons_option o cs
 entry-performed true l None cs s h = h
 entry-performed false l None cs s h = h
 entry-performed true l (Some c) cs s h = rw s.0 (ap (λ ds. c ∷ ds) h)

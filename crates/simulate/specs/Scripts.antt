@@ -1,6 +1,6 @@
 -- What stands on the lines of a script.
-use Rattle.std.specs.Prelude.{◌≡◌, ℕ, ◌+◌, Bool, true, false, not, ◌&&◌, ◌||◌, List, [], ◌∷◌, ◌++◌, Some, None, Option}
-use Rattle.std.specs.Option.{option_to_list}
+use Rattle.std.specs.Prelude.{◌≡◌, ℕ, ◌+◌, Bool, true, false, not, ◌&&◌, ◌||◌, List, [], ◌∷◌, Some, None, Option}
+use Rattle.std.specs.List.{filter_map}
 use Rattle.runs.specs.declared.records.Call.{Call}
 use Rattle.script.specs.Spelling.{Spells, PassedOver}
 use Rattle.simulation.specs.Calls.{for_open_only, is_close}
@@ -36,5 +36,4 @@ pub data Entered : ℕ → Bool → List (List ℕ) → List Entry → Type 0 wh
 
 -- the calls among them
 abbrev pub calls_of : List Entry → List Call
-calls_of [] = []
-calls_of (e ∷ es) = option_to_list e.call ++ calls_of es
+calls_of es = filter_map (λ e. e.call) es

@@ -1,6 +1,7 @@
 // The lines of a script.
 ghost use Rattle.std.specs.Prelude.{◌≡◌, false, map, IfOk, MatchOption};
 ghost use Rattle.script.specs.Spelling.{PassedOver};
+ghost use Rattle.simulation.specs.Calls.{existing};
 ghost use Rattle.simulate.specs.Lines.{lines_of};
 ghost use Rattle.simulate.specs.Scripts.{has, closes, Stands, Entered, calls_of};
 
@@ -20,17 +21,9 @@ pub struct Entry<'a> {
 fn lines(heap: Global, script: &[u8]) -> Result<Vec<&[u8]>, AllocError>
     ensures { IfOk result (λ v. map (λ l. l.now) v.items ≡ lines_of script.now) }
 {
-    let mut lines = Vec::new(heap);
-    let mut start = 0;
-    for (i, code) in script.iter().enumerate() {
-        if *code == b'\n' {
-            lines.push(&script[start..i])?;
-            start = i + 1;
-        }
-    }
-    if start < script.len() {
-        lines.push(&script[start..])?;
-    }
+    let mut lines: Vec<&[u8]> = script.split(|code| *code == b'\n').collect(heap)?;
+    // Behind the last byte 10 stands a line only where it is not empty.
+    let _ = lines.pop_if(|line| line.is_empty());
     Ok(lines)
 }
 
@@ -39,12 +32,7 @@ fn exists(call: Call, closed: bool) -> bool
     ensures { result ≡ has closed call }
 {
     match call {
-        Call::Arrive {
-            sensor: _,
-            timestamp: _,
-            value: _,
-        }
-        | Call::Close => !closed,
+        Call::Arrive { .. } | Call::Close => !closed,
         _ => true,
     }
 }
@@ -70,7 +58,8 @@ fn closes(call: Option<Call>) -> bool
 
 // What stands on the lines of a script that are not passed over.
 pub fn entries(heap: Global, script: &[u8]) -> Result<Vec<Entry<'_>>, AllocError>
-    ensures { IfOk result (λ v. Entered 1 false (lines_of script.now) v.items) }
+    ensures stand { IfOk result (λ v. Entered 1 false (lines_of script.now) v.items) }
+    ensures exist { IfOk result (λ v. existing (calls_of v.items) ≡ calls_of v.items) }
 {
     let mut entries = Vec::new(heap);
     let mut closed = false;
@@ -88,11 +77,5 @@ pub fn entries(heap: Global, script: &[u8]) -> Result<Vec<Entry<'_>>, AllocError
 pub fn calls(heap: Global, entries: &[Entry<'_>]) -> Result<Vec<Call>, AllocError>
     ensures { IfOk result (λ v. v.items ≡ calls_of entries.now) }
 {
-    let mut calls = Vec::new(heap);
-    for entry in entries {
-        if let Some(call) = entry.call {
-            calls.push(call)?;
-        }
-    }
-    Ok(calls)
+    entries.iter().filter_map(|entry| entry.call).collect(heap)
 }

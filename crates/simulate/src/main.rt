@@ -7,19 +7,13 @@ mod records;
 mod running;
 mod texts;
 
+use inputs::arguments;
 use running::{compare_scripts, run_script};
-use std::env;
 
 fn main(rt: HostRuntime) -> anyhow::Result<()> {
-    let mut names = Vec::new(rt.alloc());
-    for name in env::args(&rt)?.skip(1) {
-        names.push(name)?;
-    }
-    match names.as_slice() {
-        [image, script] => run_script(&rt, image.as_str(), script.as_str()),
-        [image, first, second] => {
-            compare_scripts(&rt, image.as_str(), first.as_str(), second.as_str())
-        }
+    match arguments(&rt)?.as_slice() {
+        [image, script] => run_script(&rt, image, script),
+        [image, first, second] => compare_scripts(&rt, image, first, second),
         _ => explain(&rt),
     }
 }

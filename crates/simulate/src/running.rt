@@ -8,47 +8,27 @@ use super::answers::Answered;
 use super::entries::{Entry, calls, entries};
 use super::records::print_records;
 use super::texts::Text;
+use inputs::{read_or_empty, read_project};
 use project::project::Project;
 use runs::records::Step;
 use simulation::{Performed, Run, compare, perform};
-use std::fs;
 use supplied::bank::Supplied;
 
-// A file that does not open counts as empty.
-fn load(rt: &HostRuntime, name: &str) -> anyhow::Result<Vec<u8>> {
-    match fs::read(rt, name) {
-        Ok(bytes) => Ok(bytes),
-        Err(_) => {
-            eprintln!(rt; "{name}: does not open, and counts as empty")?;
-            Ok(Vec::new(rt.alloc()))
-        }
-    }
-}
-
 // The project of an image; a refusal is printed.
-fn read_project(rt: &HostRuntime, name: &str) -> anyhow::Result<Option<Project>> {
-    let bytes = load(rt, name)?;
-    let mut project = Project::fresh();
-    match project.read(bytes.as_slice()) {
-        Ok(()) => Ok(Some(project)),
-        Err(fault) => {
-            let words = fault.words();
-            println!(rt; "{name}: {fault}: {words}")?;
-            Ok(None)
-        }
-    }
+fn load_project(rt: &HostRuntime, name: &str) -> anyhow::Result<Option<Project>> {
+    read_project(rt, name, &read_or_empty(rt, name)?)
 }
 
 // Runs a script and prints every answer, every record and how the run ended.
 pub fn run_script(rt: &HostRuntime, image: &str, script: &str) -> anyhow::Result<()> {
-    let Some(project) = read_project(rt, image)? else {
+    let Some(project) = load_project(rt, image)? else {
         return Ok(());
     };
-    let text = load(rt, script)?;
-    let entries = entries(rt.alloc(), text.as_slice())?;
-    let run = run_entries(rt, project, entries.as_slice())?;
-    print_answers(rt, entries.as_slice(), run.journal.as_slice())?;
-    print_records(rt, &project, run.journal.as_slice())?;
+    let text = read_or_empty(rt, script)?;
+    let entries = entries(rt.alloc(), &text)?;
+    let run = run_entries(rt, project, &entries)?;
+    print_answers(rt, &entries, &run.journal)?;
+    print_records(rt, &project, &run.journal)?;
     print_end(rt, "run", &run)
 }
 
@@ -59,7 +39,7 @@ pub fn compare_scripts(
     first: &str,
     second: &str,
 ) -> anyhow::Result<()> {
-    let Some(project) = read_project(rt, image)? else {
+    let Some(project) = load_project(rt, image)? else {
         return Ok(());
     };
     let first = run_quietly(rt, project, first)?;
@@ -67,17 +47,18 @@ pub fn compare_scripts(
     print_end(rt, "first", &first)?;
     print_end(rt, "second", &second)?;
     let comparison = compare(&first, &second);
-    let events = yes_or_no(comparison.same_events);
-    let records = yes_or_no(comparison.same_records);
-    println!(rt; "sensors gave the same events: {events}")?;
-    println!(rt; "records are equal: {records}")?;
+    println!(rt;
+        "sensors gave the same events: {}",
+        yes_or_no(comparison.same_events)
+    )?;
+    println!(rt; "records are equal: {}", yes_or_no(comparison.same_records))?;
     Ok(())
 }
 
 fn run_quietly(rt: &HostRuntime, project: Project, script: &str) -> anyhow::Result<Run> {
-    let text = load(rt, script)?;
-    let entries = entries(rt.alloc(), text.as_slice())?;
-    run_entries(rt, project, entries.as_slice())
+    let text = read_or_empty(rt, script)?;
+    let entries = entries(rt.alloc(), &text)?;
+    run_entries(rt, project, &entries)
 }
 
 // The calls among the entries, performed over the bank of the supplied kinds: the journal answers them one by one.
@@ -87,7 +68,7 @@ fn run_entries(rt: &HostRuntime, project: Project, entries: &[Entry<'_>]) -> any
 {
     let calls = calls(rt.alloc(), entries)?;
     let bank = Supplied::of(&project);
-    let Performed { bank: _, run } = perform(rt.alloc(), project, bank, calls.as_slice());
+    let Performed { bank: _, run } = perform(rt.alloc(), project, bank, &calls);
     Ok(run?)
 }
 
@@ -97,16 +78,8 @@ fn print_answers(rt: &HostRuntime, entries: &[Entry<'_>], journal: &[Step]) -> a
     for entry in entries {
         let number = entry.number;
         let text = Text(entry.text);
-        let step = if entry.call.is_some() {
-            steps.next()
-        } else {
-            None
-        };
-        match step {
-            Some(step) => {
-                let answer = Answered(step.answer);
-                println!(rt; "{number}: {text} -> {answer}")?;
-            }
+        match entry.call.and_then(|_| steps.next()) {
+            Some(step) => println!(rt; "{number}: {text} -> {}", Answered(step.answer))?,
             None => println!(rt; "{number}: {text} -> not a call")?,
         }
     }

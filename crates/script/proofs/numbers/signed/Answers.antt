@@ -1,24 +1,19 @@
-use Rattle.std.proofs.Common.{◌^◌, ◌<◌, pos, rules}
+use Rattle.std.proofs.Common.{◌≡◌, ◌∷◌, ◌^◌, ◌<◌, List, ℕ, pos, rules, arith}
 use Rattle.std.specs.Option.{SomeIff}
-use Rattle.script.proofs.Signs.{minus-none, minus-reads, plain-none, plain-reads}
+use Rattle.script.proofs.Signs.{first-is, minus-reads, plain-reads}
 use Rattle.script.proofs.numbers.signed.Goals as goal
+use Rattle.script.proofs.numbers.signed.Goals.{in_default-via-then-text-lt1, in_default-via-else-text-lt1+in_default-1}
 
-pub returns-in_err-number-in-Some : goal.returns-in_err-number-in-Some
-returns-in_err-number-in-Some c =
-    rw c.from_residual.ensures
-    (minus-none c.args.text.now _ c.in-Some.ensures c.in_err-number-in-Some.ensures)
+pub returns-in_ok-number-in-45 : goal.returns-in_ok-number-in-45
+returns-in_ok-number-in-45 c =
+    minus-reads c.args.text.now _ (first-is _ _ (omega arith) (omega arith)) _ _ c.in_ok-number-in-45.ensures c.opposite.ensures
 
-pub returns-in_err-number-in-None : goal.returns-in_err-number-in-None
-returns-in_err-number-in-None c =
-    rw c.from_residual-in_err-number-in-None.ensures
-    (plain-none c.args.text.now c.in-None.ensures c.in_err-number-in-None.ensures)
-
-pub returns-in_ok-number-in-Some : goal.returns-in_ok-number-in-Some
-returns-in_ok-number-in-Some c =
-    minus-reads c.args.text.now _ c.in-Some.ensures _ _ c.in_ok-number-in-Some.ensures c.opposite.ensures
-
-pub returns-in_ok-number-in-None : goal.returns-in_ok-number-in-None
-returns-in_ok-number-in-None c =
-    let n = c.in_ok-number-in-None.field-0 in
+pub returns-in_ok-number-in_default : goal.returns-in_ok-number-in_default
+returns-in_ok-number-in_default c =
+    let n = c.in_ok-number-in_default.field-0 in
     let told : SomeIff c.ok.result (n < 2 ^ 31) (pos n) = search rules in
-    plain-reads c.args.text.now c.in-None.ensures n _ c.in_ok-number-in-None.ensures told
+    let bare : (ds : List ℕ) → c.args.text.now ≡ 45 ∷ ds → ⊥ = λ ds e. elim c.in_default.branch [
+      | in_default-via-then-text-lt1 w ↦ grind arith
+      | in_default-via-else-text-lt1+in_default-1 w ↦ grind arith
+    ] in
+    plain-reads c.args.text.now bare n _ c.in_ok-number-in_default.ensures told

@@ -1,7 +1,7 @@
 use Rattle.std.proofs.Common.{◌≡◌, map, vec_items, refl, ap, ◌∙◌, arith}
 use Rattle.std.proofs.lemmas.Slice.{pushed}
 use Rattle.simulate.specs.Lines.{lines_of}
-use Rattle.simulate.proofs.Standing.{nothing, line-passed, line-stands, all_lines}
+use Rattle.simulate.proofs.Standing.{nothing, line-passed, line-stands, all_lines, all-performed}
 use Rattle.simulate.proofs.entries.entries.Goals as goal
 use Rattle.simulate.proofs.entries.entries.Goals.{in-Some+in_ok-push, in_default}
 
@@ -32,4 +32,5 @@ returns c =
     let ts = c.deref-text-items.result.now in
     let same : map (λ x. x.now) ts ≡ lines_of c.args.script.now =
     ap (map (λ x. x.now)) c.deref-text-items.ensures.value ∙ c.in_ok-lines.ensures in
-    all_lines _ _ _ c.loop-i.i c.loop-i.invariant ts same (omega arith)
+    let stand = all_lines _ _ _ c.loop-i.i c.loop-i.invariant ts same (omega arith) in
+    record { stand = stand; exist = all-performed _ _ stand }
