@@ -12,9 +12,6 @@ use Rattle.simulate.specs.Scripts.{Says, Stands, Entered, end, passed, entry, cl
 pub record SoFar (ls : List (List ℕ)) (es : List Entry) (closed : Bool) (i : ℕ) : Type 0 where
   pub on : (fs : List Entry) → Entered (i + 1) closed (drop i ls) fs → Entered 1 false ls (es ++ fs)
 
-pub nothing : (ls : List (List ℕ)) → SoFar ls [] false 0
-nothing ls = record { on = λ fs h. h }
-
 -- the turn at the line of the text x
 module _ (ls : List (List ℕ)) (es : List Entry) (closed : Bool) (i : ℕ) (sofar : SoFar ls es closed i)
     (ts : List (Bor (List ℕ))) (same : map (λ x. x.now) ts ≡ ls) (within : i < length ts) (x : Bor (List ℕ)) where

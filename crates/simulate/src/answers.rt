@@ -5,7 +5,7 @@ ghost use Rattle.simulate.specs.Printing.{port_text, ports_text, answer_text};
 use runs::records::Answer;
 use std::fmt;
 
-// The value at an inlet or an outlet.
+// The value at an inlet or an outlet: a type of its own, since Display cannot be written for an Option.
 #[derive(Clone, Copy)]
 struct Port(Option<i32>);
 

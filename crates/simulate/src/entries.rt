@@ -64,6 +64,7 @@ pub fn entries(heap: Global, script: &[u8]) -> Result<Vec<Entry<'_>>, AllocError
     let mut entries = Vec::new(heap);
     let mut closed = false;
     let lines = lines(heap, script)?;
+    // A loop is plainer than a chain: whether a line is a call hangs on the lines before it.
     for (i, text) in lines.iter().enumerate() {
         if let Some(entry) = read_entry(i + 1, text, closed) {
             closed |= closes(entry.call);

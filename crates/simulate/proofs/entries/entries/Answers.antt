@@ -1,12 +1,9 @@
 use Rattle.std.proofs.Common.{◌≡◌, map, vec_items, refl, ap, ◌∙◌, arith}
 use Rattle.std.proofs.lemmas.Slice.{pushed}
 use Rattle.simulate.specs.Lines.{lines_of}
-use Rattle.simulate.proofs.Standing.{nothing, line-passed, line-stands, all_lines, all-performed}
+use Rattle.simulate.proofs.Standing.{line-passed, line-stands, all_lines, all-performed}
 use Rattle.simulate.proofs.entries.entries.Goals as goal
 use Rattle.simulate.proofs.entries.entries.Goals.{in-Some+in_ok-push, in_default}
-
-pub loop-i-init : goal.loop-i-init
-loop-i-init c = rw c.new-entries.ensures.items (nothing _)
 
 pub loop-i-preserved : goal.loop-i-preserved
 loop-i-preserved c =
