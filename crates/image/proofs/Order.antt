@@ -70,14 +70,6 @@ module _ (bs : List ℕ) where
   none_before n k h p q r s (Fault.Graph ZeroLoop j) o x = later n k 9 (λ i. Unit {0}) (omega arith) j o tt
   none_before n k h p q r s (Fault.Run cause j) o x = x
 
-  pub first_head : (k : ℕ) → Lowest (Unmarked bs) k → First bs (Fault.Bytes Head k)
-  first_head k low = record {
-    holds = low.here;
-    none_before = none_before 1 k (omega arith) (now 1 k (Unmarked bs) low)
-        (later 1 k 2 (Uncounted bs) (omega arith)) (later 1 k 3 (Unfit bs) (omega arith))
-        (later 1 k 4 (BadField bs) (omega arith));
-  }
-
   pub first_count : (k : ℕ) → Nowhere (Unmarked bs) → Lowest (Uncounted bs) k → First bs (Fault.Bytes Count k)
   first_count k head low = record {
     holds = low.here;

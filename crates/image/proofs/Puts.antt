@@ -1,11 +1,7 @@
 -- Bytes written over others, one write after another.
 use Rattle.std.proofs.Common.{◌≡◌, ℕ, suc, ◌+◌, ◌<◌, ◌≤◌, List, [], ◌∷◌, ◌++◌, length, take, drop, set, sym, ap, ◌∙◌, arith}
-use borrow.Rule.Slice.PartMut.{put_mid}
 use Rattle.std.proofs.lemmas.List.{append_assoc, length-append, length-take, take_at, drop_at, drop-drop, take-append-drop, set_split}
 use Rattle.image.specs.Bytes.{put}
-
-pub put-part : (at k : ℕ) (xs ys s : List ℕ) → ys ≡ s → k ≡ length s → put_mid at k xs ys ≡ put xs at s
-put-part at k xs ys s e ek = rw (e, ek) (ap (λ z. take at xs ++ (s ++ z)) (drop-drop (length s) at xs))
 
 pub put-none : (d : List ℕ) (at : ℕ) → put d at [] ≡ d
 put-none d at =

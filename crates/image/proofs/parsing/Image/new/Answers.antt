@@ -1,14 +1,8 @@
 use Rattle.std.proofs.Common.{arith}
 use Rattle.std.proofs.lemmas.Result.{err_from_is_err_and}
 use Rattle.image.proofs.Front.{fronted}
-use Rattle.image.proofs.Order.{first_head, first_count, first-length}
+use Rattle.image.proofs.Order.{first_count, first-length}
 use Rattle.image.proofs.parsing.Image.new.Goals as goal
-
-pub returns-in_err-check_head : goal.returns-in_err-check_head
-returns-in_err-check_head c =
-    let p = err_from_is_err_and c.from_residual.result c.from_residual.ensures.1 in
-    let low = c.in_err-check_head.ensures.checked in
-    rw (p.1, p.2, low.1) (first_head c.args.bytes.now low.0 low.2, omega arith)
 
 pub returns-in_err-counts : goal.returns-in_err-counts
 returns-in_err-counts c =
