@@ -41,8 +41,8 @@ fn lay(table: &mut [Span; 1089], draft: &Draft, channel: Channel)
 {
     if let Source::Outlet { actor, outlet } = channel.source {
         let delay = delay_at(draft, actor as usize, outlet as usize);
-        let here = actor as usize * PLACES + place_of(channel.sink);
-        table[here] = table[here].pick(Span::micros(delay));
+        let place = actor as usize * PLACES + place_of(channel.sink);
+        table[place] = table[place].pick(Span::micros(delay));
     }
 }
 
