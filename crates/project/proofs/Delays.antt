@@ -53,6 +53,16 @@ module _ (p : Plan) (rising : (k : ℕ) → Misplaced p k → ⊥) where
       (λ ne. ⊎_elim (λ lt. absurd (rises i j lt b.1 same)) (λ ge. absurd (rises j i (omega (arith, ne)) a.1 (sym same))) (cases_lt i j))
       (cases_eq i j)
 
+least_zero : (P : ℕ → Type 0) (v : Option ℕ) → Least P v → P 0 → v ≡ Some 0
+least_zero P None l h = absurd (l 0 h)
+least_zero P (Some m) l h = let e : m ≡ 0 = omega (arith, l.1 0 h) in ap Some e
+
+pub instant-is : (p : Plan) → length p.actors ≤ 32 → (f : List Span) → Far p f → (a : ℕ) → (InstantBy p f a → Instant p a) × (Instant p a → InstantBy p f a)
+instant-is p few f F a = (
+  λ w. let ha : a < exit = omega (arith, w.0, few) in (w.0, (subst (Least (Path p a a)) w.1 (F.distances a a ha ha)).0),
+  λ w. let ha : a < exit = omega (arith, w.0, few) in (w.0, least_zero (Path p a a) (length_at places f a a) (F.distances a a ha ha) w.1),
+)
+
 -- an actor of a plan with few actors is below the exit
 module _ (p : Plan) (few : length p.actors ≤ 32) (ranged : Ranged p) where
   fed-below : (s b i : ℕ) → Leads p (Sensor s) (Inlet b i) → (s < length p.sensors) × (b < exit)
@@ -87,16 +97,6 @@ module _ (p : Plan) (few : length p.actors ≤ 32) (ranged : Ranged p) where
       not-true : (b : Bool) → (b ≡ true → ⊥) → b ≡ false
       not-true true f = absurd (f refl)
       not-true false f = refl
-
-  least_zero : (P : ℕ → Type 0) (v : Option ℕ) → Least P v → P 0 → v ≡ Some 0
-  least_zero P None l h = absurd (l 0 h)
-  least_zero P (Some m) l h = let e : m ≡ 0 = omega (arith, l.1 0 h) in ap Some e
-
-  pub instant-is : (f : List Span) → Far p f → (a : ℕ) → (InstantBy p f a → Instant p a) × (Instant p a → InstantBy p f a)
-  instant-is f F a = (
-    λ w. let ha : a < exit = omega (arith, w.0) in (w.0, (subst (Least (Path p a a)) w.1 (F.distances a a ha ha)).0),
-    λ w. let ha : a < exit = omega (arith, w.0) in (w.0, least_zero (Path p a a) (length_at places f a a) (F.distances a a ha ha) w.1),
-  )
 
   -- the gap of the table is the least way on from the actor that a sensor feeds
   module _ (f : List Span) (F : Far p f) where

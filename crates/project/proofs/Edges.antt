@@ -1,72 +1,18 @@
 -- How channels are laid into the table of edges.
-use Rattle.std.proofs.Common.{◌≡◌, ℕ, ◌+◌, ◌*◌, ◌<◌, ◌≤◌, min, false, cond, ◌&&◌, eqb, ◌⊎◌, List, [], ◌∷◌, ◌++◌, length, get_or, set, replicate, Some, None, Option, sym, refl, ap, ◌∙◌, subst, inl, inr, ⊎_elim, arith, lit<}
-use Rattle.std.proofs.lemmas.List.{get_or-set_same, get_or-set_other, get_or_default, get_or_past, get_or-replicate, length-replicate}
-use Rattle.std.proofs.lemmas.Bool.{cases_eq, eq-eqb, eqb-true, and_parts, false≢true, cases_Bool, cases_lt, and_from}
-use Rattle.std.proofs.lemmas.Bool.Decides.{nat_tests}
+use Rattle.std.proofs.Common.{◌≡◌, ℕ, ◌+◌, ◌*◌, ◌<◌, min, cond, ◌&&◌, eqb, ◌⊎◌, List, [], ◌∷◌, ◌++◌, replicate, Some, None, Option, sym, refl, ap, ◌∙◌, subst, inl, inr, ⊎_elim, arith}
+use Rattle.std.proofs.lemmas.List.{get_or_past, get_or-replicate, length-replicate}
+use Rattle.std.proofs.lemmas.Bool.{eq-eqb, eqb-true, and_parts, false≢true, cases_Bool, cases_lt, and_from}
 use Rattle.line.specs.Lists.{In}
 use Rattle.line.specs.Plan.{Plan, delay}
 use Rattle.line.specs.Paths.{Least}
-use Rattle.line.specs.Rules.{Begins, Ends, Proper}
 use Rattle.line.specs.declared.parts.Source.{Source}
 use Rattle.line.specs.declared.parts.Source.TheVariants.{Sensor, Outlet}
 use Rattle.line.specs.declared.parts.Sink.{Sink}
-use Rattle.line.specs.declared.parts.Sink.TheVariants.{Inlet, Actuator}
 use Rattle.line.specs.declared.parts.Channel.{Channel}
-use Rattle.paths.specs.Spans.{length_of, no_span, greatest}
+use Rattle.paths.specs.Spans.{length_of, no_span}
 use Rattle.paths.specs.Least.{length_at}
 use Rattle.paths.specs.declared.span.Span.{Span}
-use Rattle.paths.specs.SpansLemmas.{length_some}
-use Rattle.paths.proofs.Turns.{same_place}
 use Rattle.project.specs.Tables.{places, place_of, nearer, offered, Adds, Lies, Laid}
-
-some-length : (s : Span) → s.micros < greatest → length_of s ≡ Some s.micros
-some-length s h = grind (arith, nat_tests)
-
-no_length : (s : Span) → greatest ≤ s.micros → length_of s ≡ None
-no_length s h = grind (arith, nat_tests)
-
-nearer-some : (v : Option ℕ) (k n : ℕ) → v ≡ Some k → nearer v n ≡ Some (min k n)
-nearer-some v k n e = ap (λ x. nearer x n) e
-
-length-nearer : (x m v : Span) (n : ℕ) → v.micros ≡ min x.micros m.micros → length_of m ≡ Some n → length_of v ≡ nearer (length_of x) n
-length-nearer x m v n e h =
-    let is = length_some m n h in
-    let low : v.micros < greatest = omega (arith, e, is) in
-    ⊎_elim
-    (λ lt.
-    let same : v.micros ≡ min x.micros n = omega (arith, e, is) in
-    some-length v low ∙ ap Some same ∙ sym (ap (λ o. nearer o n) (some-length x lt)))
-    (λ ge.
-    let same : v.micros ≡ n = omega (arith, e, is) in
-    some-length v low ∙ ap Some same ∙ sym (ap (λ o. nearer o n) (no_length x ge)))
-    (cases_lt x.micros greatest)
-
-not-both : (b a c q : ℕ) → (b * 33 + a ≡ c * 33 + q → ⊥) → (eqb b c && eqb a q) ≡ false
-not-both b a c q ne = ⊎_elim
-    (λ t. let w = and_parts (eqb b c) (eqb a q) t in absurd (ne (omega (arith, eqb-true b c w.0, eqb-true a q w.1))))
-    (λ f. f)
-    (cases_Bool (eqb b c && eqb a q))
-
--- one write changes one edge
-pub lay_at : (t : List Span) (c q n h : ℕ) (v m d : Span) → c < 33 → q < 33 → length t ≡ 1089 → h ≡ c * 33 + q
-    → v.micros ≡ min (get_or t h d).micros m.micros → length_of m ≡ Some n → (b a : ℕ) → b < 33 → a < 33
-    → length_at 33 (set t h v) b a ≡ cond (eqb b c && eqb a q) (nearer (length_at 33 t b a) n) (length_at 33 t b a)
-lay_at t c q n h v m d hc hq long eh ev em b a hb ha =
-    let within : h < length t = omega arith in
-    ⊎_elim
-    (λ same.
-    let w = same_place 33 b a c q ha hq (same ∙ eh) in
-    let yes' = and_from (eqb b c) (eqb a q) (eq-eqb b c w.0) (eq-eqb a q w.1) in
-    let old : length_of (get_or t h d) ≡ length_at 33 t b a = ap length_of (get_or_default t h d no_span within ∙ ap (λ k. get_or t k no_span) (sym same)) in
-    ap (λ k. length_of (get_or (set t h v) k no_span)) same
-    ∙ ap length_of (get_or-set_same t h v no_span within)
-    ∙ length-nearer (get_or t h d) m v n ev em
-    ∙ ap (λ o. nearer o n) old
-    ∙ sym (ap (λ x. cond x (nearer (length_at 33 t b a) n) (length_at 33 t b a)) yes'))
-    (λ ne.
-    ap length_of (get_or-set_other t h (b * 33 + a) v no_span ne)
-    ∙ sym (ap (λ x. cond x (nearer (length_at 33 t b a) n) (length_at 33 t b a)) (not-both b a c q (λ e. ne (e ∙ sym eh)))))
-    (cases_eq (b * 33 + a) h)
 
 -- least sums, with one sum more and with the same sums
 least-nearer : (P Q : ℕ → Type 0) (n : ℕ) (v : Option ℕ) → Least P v → ((m : ℕ) → P m → Q m) → Q n → ((m : ℕ) → Q m → P m ⊎ (m ≡ n)) → Least Q (nearer v n)
@@ -151,31 +97,9 @@ pub laid_more : (p : Plan) (xs : List Channel) (c : Channel) (t u : List Span) �
 laid_more p xs c t u l e b a hb ha =
     subst (Least (Lies p (xs ++ c ∷ []) b a)) (sym (e b a hb ha)) (least_more p xs c.source c.sink b a _ (l b a hb ha))
 
-place-fits : (p : Plan) (y : Sink) → length p.actors ≤ 32 → Ends p y → place_of y < 33
-place-fits p (Inlet a i) h e = omega (arith, e.0)
-place-fits p (Actuator q) h e = lit< tt
-
--- what the code writes for a channel from an outlet, and from a sensor
-pub lay-outlet : (p : Plan) (c : Channel) (k o q : ℕ) (t : List Span) (v m d : Span) → length p.actors ≤ 32 → Proper p c → length t ≡ 1089
-    → c.source ≡ Outlet k o → q ≡ place_of c.sink → v.micros ≡ min (get_or t (k * 33 + q) d).micros m.micros
-    → length_of m ≡ Some (delay p k o) → Adds p c t (set t (k * 33 + q) v)
-lay-outlet p c k o q t v m d few w long ex eq ev em b a hb ha =
-    let from : Begins p (Outlet k o) = subst (Begins p) ex w.source in
-    let to = place-fits p c.sink few w.sink in
-    lay_at t k q (delay p k o) (k * 33 + q) v m d (omega (arith, from.0)) (omega (arith, to)) long refl ev em b a hb ha
-    ∙ ap (λ n. cond (eqb b k && eqb a n) (nearer (length_at places t b a) (delay p k o)) (length_at places t b a)) eq
-    ∙ ap (λ x. offered p x c.sink b a (length_at places t b a)) (sym ex)
-
-pub lay-sensor : (p : Plan) (c : Channel) (s : ℕ) (t : List Span) → c.source ≡ Sensor s → Adds p c t t
-lay-sensor p c s t ex b a hb ha = ap (λ x. offered p x c.sink b a (length_at places t b a)) (sym ex)
-
 pub blank : (s : Span) (k : ℕ) → length_of s ≡ None → (b a : ℕ) → b < places → a < places → length_at places (replicate k s) b a ≡ None
 blank s k e b a hb ha =
     ⊎_elim
     (λ lt. ap length_of (get_or-replicate k (b * 33 + a) s no_span lt) ∙ e)
     (λ ge. ap length_of (get_or_past (replicate k s) (b * 33 + a) no_span (omega (arith, length-replicate k s))))
     (cases_lt (b * 33 + a) k)
-
--- past the rows of the table there is no edge
-pub beyond : (t : List Span) (b a : ℕ) → length t ≡ 1089 → places ≤ b → length_at places t b a ≡ None
-beyond t b a long past = ap length_of (get_or_past t (b * 33 + a) no_span (omega (arith, long, past)))

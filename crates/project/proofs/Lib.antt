@@ -1,7 +1,6 @@
 pub mod Firsts
 pub mod Wired
 pub mod Nths
-pub mod Precedence
 pub mod Found
 pub mod Closing
 pub mod Few

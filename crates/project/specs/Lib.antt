@@ -5,3 +5,4 @@ pub mod Lines
 pub mod Project
 pub mod Fresh
 pub mod Lookups
+pub mod RecordsLemmas

@@ -46,11 +46,14 @@ Lies p cs b a n = (o : ℕ) × (y : Sink) × In (record { source = Outlet b o; s
 abbrev pub Laid : Plan → List Channel → List Span → Type 0
 Laid p cs t = (b a : ℕ) → b < places → a < places → Least (Lies p cs b a) (length_at places t b a)
 
--- the least sums of delays between actors and to an actuator, none of them long
+-- no length in the table is long
+abbrev pub Small : List Span → Type 0
+Small r = (b a d : ℕ) → a < places → length_at places r b a ≡ Some d → d < 2 ^ 63
+
+-- the least sums of delays between actors and to an actuator
 pub record Far (p : Plan) (r : List Span) : Type 0 where
   pub distances : (b a : ℕ) → b < exit → a < exit → Distance p b a (length_at places r b a)
   pub exits : (b : ℕ) → b < exit → Least (Exit p b) (length_at places r b exit)
-  pub small : (b a d : ℕ) → a < places → length_at places r b a ≡ Some d → d < 2 ^ 63
 
 -- which actors reach which, and which reach an actuator
 pub record Reach (p : Plan) (r : List Bool) : Type 0 where

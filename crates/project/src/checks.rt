@@ -1,18 +1,17 @@
 // The rules between the records of a draft whose fields are in range, in the order of their refusals.
-ghost use Rattle.std.specs.Prelude.{◌≤◌, ℕ, ◌+◌, ◌<◌, true, false, length, MatchResult};
+ghost use Rattle.std.specs.Prelude.{◌≡◌, ℕ, ◌+◌, ◌<◌, true, false, length, MatchResult};
 ghost use Rattle.image.specs.Drafts.{plan_of};
-ghost use Rattle.line.specs.Rules.{Misplaced, Doubled, Idle, Unfed, Severed, Instant, Sized, Ranged, Lawful};
+ghost use Rattle.line.specs.Rules.{Misplaced, Doubled, Idle, Unfed, Severed, Sized, Ranged, Lawful};
 ghost use Rattle.fault.specs.declared.RecordsCause.TheVariants.{Order as Unordered, Sink as Shared};
 ghost use Rattle.fault.specs.declared.GraphCause.TheVariants.{Unwired as Unwired, CutOff as CutOff, ZeroLoop as ZeroLoop};
 ghost use Rattle.fault.specs.declared.Fault.TheVariants.{Records as OfRecords, Graph as OfGraph};
+ghost use Rattle.project.specs.Tables.{Far, InstantBy};
 ghost use Rattle.project.specs.Flawed.{Cleared, FirstFlaw};
-ghost use Rattle.project.specs.Tables.{Far};
 
 use super::flaws::{is_cut_off, is_doubled, is_idle, is_instant, is_misplaced, is_unfed};
-use super::tables::{far, reach};
+use super::records::{Distances, Records};
 use fault::{Fault, GraphCause, RecordsCause};
 use image::draft::Draft;
-use paths::Span;
 
 // Refuses the lowest number below n that has the flaw.
 fn refuse<C: Fn(usize) -> bool, R: FnOnce(u64) -> Fault>(
@@ -71,42 +70,44 @@ fn check_actuators(draft: &Draft) -> Result<(), Fault>
     )
 }
 
-fn check_reach(draft: &Draft) -> Result<(), Fault>
-    requires ranged { Ranged (plan_of draft.now) }
-    ensures { Cleared (Severed (plan_of draft.now)) (OfGraph CutOff) result }
-{
-    let reach = reach(draft);
-    refuse(
-        draft.actors.len(),
-        |a| is_cut_off(draft, &reach, a),
-        |a| Fault::Graph(GraphCause::CutOff, a),
-    )
+impl<'a> Records<'a> {
+    fn check_reach(&self) -> Result<(), Fault>
+        ensures { Cleared (Severed (plan_of self.now.draft.now)) (OfGraph CutOff) result }
+    {
+        let draft = self.draft;
+        let reach = self.reach();
+        refuse(
+            draft.actors.len(),
+            |a| is_cut_off(draft, &reach, a),
+            |a| Fault::Graph(GraphCause::CutOff, a),
+        )
+    }
+
+    // The distances of a draft that keeps every rule, or its first flaw.
+    pub fn check(&self) -> Result<Distances<'a>, Fault>
+        requires sized { Sized (plan_of self.now.draft.now) }
+        ensures { MatchResult result (λ d. (d.draft ≡ self.now.draft) × Lawful (plan_of self.now.draft.now) × Far (plan_of self.now.draft.now) d.table) (FirstFlaw (plan_of self.now.draft.now)) }
+    {
+        check_order(self.draft)?;
+        check_sinks(self.draft)?;
+        check_sensors(self.draft)?;
+        check_actuators(self.draft)?;
+        self.check_reach()?;
+        let distances = self.distances();
+        distances.check_loops()?;
+        Ok(distances)
+    }
 }
 
-fn check_loops(draft: &Draft, far: &[Span; 1089]) -> Result<(), Fault>
-    requires ranged { Ranged (plan_of draft.now) }
-    requires far { Far (plan_of draft.now) far.now }
-    ensures { Cleared (Instant (plan_of draft.now)) (OfGraph ZeroLoop) result }
-{
-    refuse(
-        draft.actors.len(),
-        |a| is_instant(draft, far, a),
-        |a| Fault::Graph(GraphCause::ZeroLoop, a),
-    )
-}
-
-// The distances of a draft that keeps every rule, or its first flaw.
-pub fn check(draft: &Draft) -> Result<[Span; 1089], Fault>
-    requires sized { Sized (plan_of draft.now) }
-    requires ranged { Ranged (plan_of draft.now) }
-    ensures { MatchResult result (λ far. Lawful (plan_of draft.now) × Far (plan_of draft.now) far) (FirstFlaw (plan_of draft.now)) }
-{
-    check_order(draft)?;
-    check_sinks(draft)?;
-    check_sensors(draft)?;
-    check_actuators(draft)?;
-    check_reach(draft)?;
-    let far = far(draft);
-    check_loops(draft, &far)?;
-    Ok(far)
+impl Distances<'_> {
+    fn check_loops(&self) -> Result<(), Fault>
+        ensures { Cleared (InstantBy (plan_of self.now.draft.now) self.now.table) (OfGraph ZeroLoop) result }
+    {
+        let (draft, table) = (self.draft, &self.table);
+        refuse(
+            draft.actors.len(),
+            |a| is_instant(draft, table, a),
+            |a| Fault::Graph(GraphCause::ZeroLoop, a),
+        )
+    }
 }

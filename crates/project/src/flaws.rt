@@ -10,11 +10,11 @@ use image::draft::Draft;
 use line::parts::{Sink, Source};
 use paths::Span;
 
-// Whether channels from a stand before channels from b: sensors first, then by number, then by outlet.
-fn precedes(a: Source, b: Source) -> bool
-    ensures { Decides result (weight a < weight b) }
+// Whether channels from x stand before channels from y: sensors first, then by number, then by outlet.
+fn precedes(x: Source, y: Source) -> bool
+    ensures { Decides result (weight x < weight y) }
 {
-    a < b
+    x < y
 }
 
 // Whether channel k does not stand above the one before it.

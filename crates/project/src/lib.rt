@@ -4,6 +4,7 @@
 mod checks;
 mod flaws;
 pub mod project;
+mod records;
 mod tables;
 mod waits;
 mod wiring;

@@ -9,6 +9,7 @@ ghost use Rattle.paths.specs.Paths.{at};
 ghost use Rattle.paths.specs.Spans.{length_of, no_span};
 ghost use Rattle.project.specs.Tables.{places, place_of, Adds, Laid, Far, Reach};
 
+use super::records::{Distances, Records};
 use image::draft::Draft;
 use line::parts::{Channel, Sink, Source};
 use paths::{Span, Weight, distances, reaches};
@@ -40,32 +41,9 @@ fn lay(table: &mut [Span; 1089], draft: &Draft, channel: Channel)
 {
     if let Source::Outlet { actor, outlet } = channel.source {
         let delay = delay_at(draft, actor as usize, outlet as usize);
-        let here = actor as usize * PLACES + place_of(channel.sink);
-        table[here] = table[here].pick(Span::micros(delay));
+        let place = actor as usize * PLACES + place_of(channel.sink);
+        table[place] = table[place].pick(Span::micros(delay));
     }
-}
-
-// The edges that the channels of a draft draw.
-fn edges(draft: &Draft) -> [Span; 1089]
-    requires ranged { Ranged (plan_of draft.now) }
-    ensures { Laid (plan_of draft.now) (plan_of draft.now).channels result }
-{
-    let mut table = [Span::none(); 1089];
-    let channels = draft.channels.as_slice();
-    for c in channels {
-        lay(&mut table, draft, *c);
-    }
-    table
-}
-
-// The least sums of delays between actors, and from actors to an actuator.
-pub fn far(draft: &Draft) -> [Span; 1089]
-    requires ranged { Ranged (plan_of draft.now) }
-    ensures { Far (plan_of draft.now) result }
-{
-    let mut table = edges(draft);
-    let _ = distances(&mut table, PLACES);
-    table
 }
 
 // Where there is an edge.
@@ -75,14 +53,40 @@ fn links(edges: &[Span; 1089]) -> [bool; 1089]
     edges.map(|span| span.length().is_some())
 }
 
-// Which actors reach which, and which reach an actuator.
-pub fn reach(draft: &Draft) -> [bool; 1089]
-    requires ranged { Ranged (plan_of draft.now) }
-    ensures { Reach (plan_of draft.now) result }
-{
-    let mut table = links(&edges(draft));
-    let _ = reaches(&mut table, PLACES);
-    table
+impl<'a> Records<'a> {
+    // The edges that the channels draw.
+    fn edges(&self) -> [Span; 1089]
+        ensures { Laid (plan_of self.now.draft.now) (plan_of self.now.draft.now).channels result }
+    {
+        let mut table = [Span::none(); 1089];
+        let channels = self.draft.channels.as_slice();
+        for c in channels {
+            lay(&mut table, self.draft, *c);
+        }
+        table
+    }
+
+    // The least sums of delays between actors, and from actors to an actuator.
+    pub fn distances(&self) -> Distances<'a>
+        ensures draft { result.draft ≡ self.now.draft }
+        ensures far { Far (plan_of self.now.draft.now) result.table }
+    {
+        let mut table = self.edges();
+        let _ = distances(&mut table, PLACES);
+        Distances {
+            draft: self.draft,
+            table,
+        }
+    }
+
+    // Which actors reach which, and which reach an actuator.
+    pub fn reach(&self) -> [bool; 1089]
+        ensures { Reach (plan_of self.now.draft.now) result }
+    {
+        let mut table = links(&self.edges());
+        let _ = reaches(&mut table, PLACES);
+        table
+    }
 }
 
 // The cell of the table from b to a, if it has one.

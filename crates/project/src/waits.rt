@@ -3,13 +3,12 @@ ghost use Rattle.std.specs.Prelude.{◌≡◌, ℕ, ◌<◌, ◌≤◌, length, 
 ghost use Rattle.image.specs.Drafts.{plan_of};
 ghost use Rattle.line.specs.Plan.{lateness};
 ghost use Rattle.line.specs.Rules.{Proper, Ranged};
-ghost use Rattle.project.specs.Tables.{Far};
 ghost use Rattle.project.specs.Waits.{slack_of, Asks, Greatest, Awaits};
 
+use super::records::Distances;
 use super::tables::span_between;
 use image::draft::Draft;
 use line::parts::{Channel, Sink, Source};
-use paths::Span;
 use std::array;
 
 // A sensor's lateness; 0 for a sensor that is not in the draft.
@@ -19,46 +18,42 @@ pub fn lateness_of(draft: &Draft, sensor: usize) -> u32
     draft.sensors.get(sensor).unwrap_or(0)
 }
 
-// What a channel asks of an actor: the sensor's lateness less the distance from there.
-fn slack(draft: &Draft, far: &[Span; 1089], actor: u8, channel: Channel) -> Option<i64>
-    requires within { actor < 32 }
-    requires far { Far (plan_of draft.now) far.now }
-    ensures { result ≡ slack_of (plan_of draft.now) far.now actor channel.source channel.sink }
-{
-    let (
-        Source::Sensor(sensor),
-        Sink::Inlet {
-            actor: fed,
-            inlet: _,
-        },
-    ) = (channel.source, channel.sink)
-    else {
-        return None;
-    };
-    let late = lateness_of(draft, sensor as usize) as i64;
-    if fed == actor {
-        return Some(late);
+impl Distances<'_> {
+    // What a channel asks of an actor: the sensor's lateness less the distance from there.
+    fn slack(&self, actor: u8, channel: Channel) -> Option<i64>
+        requires { actor < 32 }
+        ensures { result ≡ slack_of (plan_of self.now.draft.now) self.now.table actor channel.source channel.sink }
+    {
+        let (
+            Source::Sensor(sensor),
+            Sink::Inlet {
+                actor: fed,
+                inlet: _,
+            },
+        ) = (channel.source, channel.sink)
+        else {
+            return None;
+        };
+        let late = lateness_of(self.draft, sensor as usize) as i64;
+        if fed == actor {
+            return Some(late);
+        }
+        span_between(&self.table, fed, actor).map(|distance| late - distance as i64)
     }
-    span_between(far, fed, actor).map(|distance| late - distance as i64)
-}
 
-// The greatest that the channels of sensors ask of an actor.
-fn wait_of(draft: &Draft, far: &[Span; 1089], actor: u8) -> Option<i64>
-    requires within { actor < 32 }
-    requires far { Far (plan_of draft.now) far.now }
-    ensures { Greatest (Asks (plan_of draft.now) far.now actor (plan_of draft.now).channels) result }
-{
-    let channels = draft.channels.as_slice();
-    channels
-        .iter()
-        .filter_map(|c| slack(draft, far, actor, *c))
-        .max()
-}
+    // The greatest that the channels of sensors ask of an actor.
+    fn wait_of(&self, actor: u8) -> Option<i64>
+        requires { actor < 32 }
+        ensures { Greatest (Asks (plan_of self.now.draft.now) self.now.table actor (plan_of self.now.draft.now).channels) result }
+    {
+        let channels = self.draft.channels.as_slice();
+        channels.iter().filter_map(|c| self.slack(actor, *c)).max()
+    }
 
-// The waits of all actors, by number; 0 where no sensor comes to one.
-pub fn waits(draft: &Draft, far: &[Span; 1089]) -> [i64; 32]
-    requires far { Far (plan_of draft.now) far.now }
-    ensures { (a : ℕ) → a < 32 → Awaits (plan_of draft.now) far.now a (slice_index_or result a (pos 0)) }
-{
-    array::from_fn(|actor| wait_of(draft, far, actor as u8).unwrap_or(0))
+    // The waits of all actors, by number; 0 where no sensor comes to one.
+    pub fn waits(&self) -> [i64; 32]
+        ensures { (a : ℕ) → a < 32 → Awaits (plan_of self.now.draft.now) self.now.table a (slice_index_or result a (pos 0)) }
+    {
+        array::from_fn(|actor| self.wait_of(actor as u8).unwrap_or(0))
+    }
 }

@@ -12,6 +12,7 @@ pub fn end_of(channels: &[Channel], x: Source) -> Option<Sink>
 }
 
 // Where the channel to y begins, if there is one.
+// It mirrors `end_of`: one function over both ends, with a reader for each, would be no plainer.
 pub fn origin_of(channels: &[Channel], y: Sink) -> Option<Source>
     ensures { result ≡ start_of y channels.now }
 {

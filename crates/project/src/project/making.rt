@@ -4,8 +4,7 @@ ghost use Rattle.line.specs.Rules.{Sized, Ranged, Lawful};
 ghost use Rattle.project.specs.Flawed.{FirstFlaw};
 
 use super::Project;
-use crate::checks::check;
-use crate::waits::waits;
+use crate::records::Records;
 use fault::Fault;
 use image::draft::Draft;
 
@@ -16,12 +15,11 @@ impl Project {
         requires ranged { Ranged (plan_of draft.now) }
         ensures { MatchResult result (λ p. (p.draft ≡ draft.now) × Lawful (plan_of draft.now)) (FirstFlaw (plan_of draft.now)) }
     {
-        let far = check(draft)?;
-        let waits = waits(draft, &far);
+        let distances = Records { draft }.check()?;
         Ok(Project {
             draft: *draft,
-            far,
-            waits,
+            far: distances.table,
+            waits: distances.waits(),
         })
     }
 }
