@@ -20,8 +20,3 @@ loop-event-preserved c =
       | else-from-actor w ↦ w.first-is ∙ c.loop-event.invariant
           ∙ sym (least-same event_time (at_actor a) es i no_event c.loop-event-test.true (ne_eqb e.actor a (λ p. w.if-from-actor.false (c.from.ensures ∙ p))))
     ]
-
-pub returns : goal.returns
-returns c =
-    c.loop-event.invariant ∙ ap (λ (es : List Event). least event_time (keep (at_actor c.args.actor) es))
-    (take_all c.loop-event.event-index c.args.events.now c.loop-event-test.false)

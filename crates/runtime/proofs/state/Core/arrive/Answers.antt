@@ -47,16 +47,3 @@ returns c =
       project = refl;
       taking = refl;
     }
-
-pub post-requires : goal.post-requires
-post-requires c =
-    let was = c.args.self.now in
-    let l = line was.project in
-    let free = sym c.takes_in.ensures ∙ ap result_err c.in_ok-takes_in.was in
-    let room = arrive_room l (state_over was no_rows) c.args.sensor c.args.timestamp free in
-    let value = to_z-of_z w32 c.args.value c.ranges.value in
-    let same : listed c.at.result ≡ event_at c.feed-sink.result c.args.timestamp (Some c.args.value) =
-    c.at.ensures ∙ ap (λ v. event_at c.feed-sink.result c.args.timestamp (Some v)) value in
-    let few = one_event c.feed-sink.result c.args.timestamp (Some c.args.value) in
-    let free : length (held c.args.self.now.events.waiting) + length (listed c.at.result) + c.args.self.now.events.aside ≤ 128 =
-    omega (arith, was.inlets, room, few, ap length same) in (lit< tt, free)

@@ -6,13 +6,6 @@ use Rattle.runtime.specs.Meant.{no_rows}
 use Rattle.runtime.proofs.Waiting.{outputs-first, none-waits, none_due, delivers}
 use Rattle.runtime.proofs.state.Core.deliver.Goals as goal
 
-pub returns-in_default : goal.returns-in_default
-returns-in_default c = record {
-  outcome = λ m. (refl, none-waits _ _ (sym c.first.ensures ∙ c.in_default.is), refl);
-  project = refl;
-  taking = refl;
-}
-
 pub returns-then-self-first : goal.returns-then-self-first
 returns-then-self-first c =
     let rise = outputs-first _ _ c.args.self.now.secure in

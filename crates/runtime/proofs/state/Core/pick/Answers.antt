@@ -6,11 +6,6 @@ use Rattle.runtime.specs.Model.{state_over}
 use Rattle.runtime.proofs.Picks.{least_key, LeastKey, least-is, pick-none, pick_some}
 use Rattle.runtime.proofs.state.Core.pick.Goals as goal
 
-pub loop-actor-preserved : goal.loop-actor-preserved
-loop-actor-preserved c =
-    let f = key_of (line c.args.self.now.project) (state_over c.args.self.now no_rows) in
-    c.lesser-least.ensures ∙ ap₂ lesser c.loop-actor.invariant c.key.ensures ∙ sym (ap (least_key f) (add-one c.loop-actor.actor))
-
 pub returns-in-Some : goal.returns-in-Some
 returns-in-Some c =
     let was = c.args.self.now in

@@ -20,17 +20,6 @@ set_aside-requires c =
     let room : length (queue.held c.take-inlets.new.events.waiting) + (c.leading-events.result + c.take-inlets.new.events.aside) ≤ 128 =
     omega (arith, fit, ap length c.take-inlets.ensures.waiting, c.take-inlets.ensures.aside, c.leading-events.ensures.value, was.inlets) in (lit< tt, room)
 
-pub set_aside-requires-2 : goal.set_aside-requires-2
-set_aside-requires-2 c =
-    let was = c.args.self.now in
-    let l = line was.project in
-    let s = state_over was no_rows in
-    let a = c.args.firing.actor in
-    let t = c.args.firing.timestamp in
-    let fit = output_places-fit l (started s a t) (secure-started l was.project.sound s a t c.requires.accepted c.requires.first was.secure) in
-    let room : length (queue.held c.args.self.now.outputs.waiting) + (c.leading-outputs.result + c.args.self.now.outputs.aside) ≤ 64 =
-    omega (arith, fit, c.leading-outputs.ensures.value, was.actuators) in (lit< tt, room)
-
 pub invariant_of-self : goal.invariant_of-self
 invariant_of-self c =
     let was = c.args.self.now in
