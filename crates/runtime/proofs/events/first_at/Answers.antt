@@ -1,9 +1,7 @@
-use Rattle.std.proofs.Common.{List, get_or, Some, sym, ap, ◌∙◌}
+use Rattle.std.proofs.Common.{get_or, Some, sym, ap, ◌∙◌}
 use Rattle.std.proofs.lemmas.Bool.{eq-eqb, ne_eqb}
-use Rattle.std.proofs.lemmas.List.{take_all}
-use Rattle.runs.specs.Lists.{keep, least, lower}
+use Rattle.runs.specs.Lists.{lower}
 use Rattle.runs.specs.State.{at_actor, event_time}
-use Rattle.runs.specs.declared.records.Event.{Event}
 use Rattle.runtime.proofs.Leasts.{least_more, least-same, no_event}
 use Rattle.runtime.proofs.events.first_at.Goals as goal
 use Rattle.runtime.proofs.events.first_at.Goals.{then-from-actor, else-from-actor}

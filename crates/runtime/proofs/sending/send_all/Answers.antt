@@ -1,8 +1,8 @@
-use Rattle.std.proofs.Common.{◌≡◌, ◌<◌, refl, ◌∙◌, arith}
+use Rattle.std.proofs.Common.{◌<◌, ◌∙◌, arith}
 use Rattle.queue.specs.Held.{held}
 use Rattle.project.specs.Project.{plan}
 use Rattle.runs.specs.State.{event_from, event_time, output_from, output_time}
-use Rattle.runtime.proofs.Posts.{send-room, sent-all, sent-more}
+use Rattle.runtime.proofs.Posts.{send-room, sent-more}
 use Rattle.runtime.proofs.sending.send_all.Goals as goal
 
 pub send_from-requires-clause-event_room : goal.send_from-requires-clause-event_room

@@ -1,12 +1,8 @@
-use Rattle.std.proofs.Common.{◌≡◌, List, get_or, Some, None, sym, ap, ap₂, ◌∙◌}
-use Rattle.std.proofs.lemmas.List.{take_all}
-use Rattle.fault.specs.declared.RunCause.TheVariants.{Behind}
-use Rattle.queue.specs.Held.{held}
+use Rattle.std.proofs.Common.{get_or, Some, sym, ap, ap₂, ◌∙◌}
 use Rattle.project.specs.Project.{line}
 use Rattle.project.proofs.Wired.{in-at}
-use Rattle.runs.specs.Calls.{could_reach, event_actor, first_met}
-use Rattle.runs.specs.Lists.{keep, least, lower}
-use Rattle.runs.specs.declared.records.Event.{Event}
+use Rattle.runs.specs.Calls.{could_reach, event_actor}
+use Rattle.runs.specs.Lists.{lower}
 use Rattle.runtime.specs.Meant.{no_rows}
 use Rattle.runtime.specs.Model.{state_over}
 use Rattle.runtime.proofs.Leasts.{least_more, least-same, no_event}

@@ -1,4 +1,4 @@
-use Rattle.std.proofs.Common.{◌≡◌, ◌+◌, ◌<◌, ◌≤◌, length, Some, sym, refl, ap, ◌∙◌, subst, ap₂, w32, rules, arith, lit<}
+use Rattle.std.proofs.Common.{◌<◌, length, Some, sym, refl, ap, ◌∙◌, subst, ap₂, w32, rules}
 use Rattle.std.proofs.lemmas.Int.{to_z-of_z}
 use Rattle.std.specs.Result.{result_err}
 use Rattle.runs.specs.Lists.{put_all}
@@ -9,10 +9,10 @@ use Rattle.runs.specs.Safe.{Secure}
 use Rattle.bounded.specs.Held as bounded
 use Rattle.queue.specs.Held.{held}
 use Rattle.project.specs.Project.{line}
-use Rattle.runtime.specs.Meant.{listed, no_rows}
+use Rattle.runtime.specs.Meant.{no_rows}
 use Rattle.runtime.specs.Model.{state_over}
 use Rattle.runtime.proofs.Sensors.{same-lateness}
-use Rattle.runtime.proofs.States.{arrive_room, one_event, arrived-state, secure-arrived, accepted}
+use Rattle.runtime.proofs.States.{arrived-state, secure-arrived, accepted}
 use Rattle.runtime.proofs.state.Core.arrive.Goals as goal
 
 pub invariant_of-self : goal.invariant_of-self

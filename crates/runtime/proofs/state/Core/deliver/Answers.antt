@@ -3,7 +3,7 @@ use Rattle.runs.proofs.Secure.{secure-deliver}
 use Rattle.runtime.specs.Model.{state_over}
 use Rattle.runtime.specs.Answers.{handing}
 use Rattle.runtime.specs.Meant.{no_rows}
-use Rattle.runtime.proofs.Waiting.{outputs-first, none-waits, none_due, delivers}
+use Rattle.runtime.proofs.Waiting.{outputs-first, none_due, delivers}
 use Rattle.runtime.proofs.state.Core.deliver.Goals as goal
 
 pub returns-then-self-first : goal.returns-then-self-first

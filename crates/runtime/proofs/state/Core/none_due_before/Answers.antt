@@ -1,7 +1,7 @@
 use Rattle.std.proofs.Common.{None, sym, ap, ◌∙◌}
 use Rattle.fault.specs.declared.RunCause.TheVariants.{Due}
 use Rattle.runs.specs.Calls.{first_met}
-use Rattle.runtime.proofs.Waiting.{outputs-first, due-none, due-first, due-later}
+use Rattle.runtime.proofs.Waiting.{outputs-first, due-first, due-later}
 use Rattle.runtime.proofs.state.Core.none_due_before.Goals as goal
 
 pub returns-then-first-clock : goal.returns-then-first-clock

@@ -1,4 +1,4 @@
-use Rattle.std.proofs.Common.{sym, refl, subst}
+use Rattle.std.proofs.Common.{sym, subst}
 use Rattle.bounded.specs.Held as bounded
 use Rattle.queue.specs.Held as queue
 use Rattle.project.specs.Project.{line}

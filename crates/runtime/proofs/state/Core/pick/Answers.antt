@@ -1,6 +1,6 @@
-use Rattle.std.proofs.Common.{◌≡◌, length, Some, None, sym, refl, ap, ◌∙◌, subst, ap₂, add-one, arith}
+use Rattle.std.proofs.Common.{◌≡◌, length, Some, None, sym, refl, ap, ◌∙◌, subst, arith}
 use Rattle.project.specs.Project.{line, plan}
-use Rattle.runtime.specs.Keys.{key_of, lesser}
+use Rattle.runtime.specs.Keys.{key_of}
 use Rattle.runtime.specs.Meant.{no_rows}
 use Rattle.runtime.specs.Model.{state_over}
 use Rattle.runtime.proofs.Picks.{least_key, LeastKey, least-is, pick-none, pick_some}

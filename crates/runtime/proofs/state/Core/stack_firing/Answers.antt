@@ -6,7 +6,7 @@ use Rattle.runs.specs.Safe.{Secure}
 use Rattle.runs.specs.State.{aside, started, to_actuator, to_inlet}
 use Rattle.runtime.specs.Meant.{no_rows}
 use Rattle.runtime.specs.Model.{state_over}
-use Rattle.runtime.proofs.States.{event_places-fit, output_places-fit, pushed, secure-started, stacked_on, started-state}
+use Rattle.runtime.proofs.States.{event_places-fit, pushed, secure-started, stacked_on, started-state}
 use Rattle.runtime.proofs.state.Core.stack_firing.Goals as goal
 
 pub set_aside-requires : goal.set_aside-requires
