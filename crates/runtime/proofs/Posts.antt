@@ -37,6 +37,3 @@ module _ {A : Type 0} (f : A → ℕ) (g : ℕ → List A) (zs : List A) where
       let after = length-put-all f (flat_map g (drop (o + 1) ports)) (put_all f (g o) xs) in
       let one = length-put-all f (g o) xs in
       omega arith
-
-  pub sent-all : (o : ℕ) (xs : List A) → o ≡ 4 → SentSoFar o xs → xs ≡ put_all f (flat_map g ports) zs
-  sent-all o xs e h = rw e at h

@@ -1,12 +1,12 @@
 -- States that are equal, and what the invariant of a runtime gives.
-use Rattle.std.proofs.Common.{◌≡◌, ℕ, ◌+◌, ◌<◌, ◌≤◌, Bool, true, false, cond, not, ltb, List, [], ◌∷◌, ◌++◌, length, set, ℤ, Some, None, Option, refl, ap, ◌∙◌, subst, arith}
+use Rattle.std.proofs.Common.{◌≡◌, ℕ, ◌<◌, ◌≤◌, Bool, true, cond, not, ltb, List, [], ◌∷◌, ◌++◌, length, set, ℤ, Some, None, Option, refl, ap, ◌∙◌, subst, arith}
 use mathlib.Core.Path.{fun_ext}
 use Rattle.std.proofs.lemmas.List.{length-reverse, reverse-append}
 use mathlib.Core.Logic.{∥∥₁_map, ∥∥₁_elim, ∥∥₁_prop}
 use native.Mathlib.Bridge.{le_prop}
 use Rattle.std.proofs.lemmas.Bool.{lt-ltb, ltb-false}
 use Rattle.line.specs.Times.{Line, Sound}
-use Rattle.runs.specs.State.{State, fresh, advanced, arrived, started, taken, four, value_for, output_time, event_time, event_at, to_inlet}
+use Rattle.runs.specs.State.{State, fresh, advanced, arrived, started, taken, four, value_for, output_time, event_time, event_at}
 use Rattle.runs.specs.Lists.{keep, put_all}
 use Rattle.line.specs.Plan.{feed}
 use Rattle.line.specs.Lists.{In}
@@ -21,8 +21,6 @@ use Rattle.banks.specs.Meaning.{Meaning}
 use Rattle.runs.specs.declared.records.Event.{Event}
 use Rattle.runs.specs.declared.records.Running.{Running}
 use Rattle.runs.specs.declared.records.Output.{Output}
-use Rattle.line.specs.declared.parts.Sink.{Sink}
-use Rattle.runs.proofs.Sending.{event-few}
 use Rattle.runs.proofs.Secure.{start-room}
 use Rattle.runtime.specs.declared.rows.SensorRow.{SensorRow}
 use Rattle.runtime.specs.Meant.{state_of, top_first, last_at, lateness_at, no_rows}
@@ -87,18 +85,6 @@ pub secure-arrived : (l : Line) → ∥ Sound l ∥₁ → (s : State) (x t : �
     arrive_verdict l s x t ≡ None → Secure l s → Secure l (arrived l s x t v)
 secure-arrived l sound s x t v live e i =
     ∥∥₁_elim sound ∥∥₁_prop (λ k. ∥∥₁_map i (safe-arrive l k s x t v live (arrives l s x t e)))
-
--- an accepted arrival finds room
-pub arrive_room : (l : Line) (s : State) (x t : ℕ) → arrive_verdict l s x t ≡ None → event_places l.plan s + 1 ≤ event_room
-arrive_room l s x t free = (arrives l s x t free).room
-
--- a value makes one event at most
-pub one_event : (k : Option Sink) (t : ℕ) (v : Option ℤ) → length (event_at k t v) ≤ 1
-one_event k t v = let few = event-few k t v in go (to_inlet k) few
-  where
-    go : (b : Bool) → length (event_at k t v) ≤ cond b 1 0 → length (event_at k t v) ≤ 1
-    go true h = h
-    go false h = omega arith
 
 -- an event that waits is at an actor of the line
 pub event-inside : (l : Line) (s : State) (es : List Event) (e : Event) → es ≡ s.events → In e es → Secure l s →

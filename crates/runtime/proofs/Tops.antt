@@ -1,5 +1,5 @@
 -- The top of the stack.
-use Rattle.std.proofs.Common.{◌≡◌, ℕ, ◌-◌, ◌<◌, ◌≤◌, leb, List, [], ◌∷◌, reverse, length, get_or, Some, None, sym, refl, ap, ◌∙◌, inl, arith}
+use Rattle.std.proofs.Common.{◌≡◌, ℕ, ◌-◌, ◌<◌, ◌≤◌, leb, List, [], ◌∷◌, reverse, length, get_or, Some, sym, refl, ap, ◌∙◌, inl, arith}
 use mathlib.Core.Logic.{∥∥₁_elim}
 use native.Mathlib.Bridge.{le_prop}
 use lib.ListN.{length-reverse}
@@ -29,10 +29,6 @@ top-final (f ∷ fs) =
     ∙ sym (slice_get-get_or gs (length gs - 1) f last)
 
 module _ (l : Line) (d : ℕ) where
-  pub none-sooner : (gs : List Running) → slice_get gs 0 ≡ None → not_sooner l gs d ≡ None
-  none-sooner [] e = refl
-  none-sooner (g ∷ gs) e = let z : ◌≡◌ {A = ℕ} 0 1 = cc in absurd (omega arith)
-
   pub top-sooner : (gs : List Running) (f : Running) → slice_get gs 0 ≡ Some f →
       not_sooner l gs d ≡ when (leb (deadline_of l f) d) (deadline_of l f)
   top-sooner [] f e = let z : ◌≡◌ {A = ℕ} 0 1 = cc in absurd (omega arith)

@@ -41,10 +41,6 @@ pub outputs-first : (l : Line) (s : State) → Secure l s → FirstLeast s.outpu
 outputs-first l s i = first-least l s s.outputs refl i
 
 -- where the first output is due, and where it is not
-pub due-none : (c : ℕ) (os : List Output) → slice_get os 0 ≡ None → due_before c os ≡ None
-due-none c [] e = refl
-due-none c (o ∷ os) e = let z : ◌≡◌ {A = ℕ} 0 1 = cc in absurd (omega arith)
-
 module _ (c : ℕ) (o : Output) where
   pub due-first : (os : List Output) → FirstLeast os → slice_get os 0 ≡ Some o → o.timestamp < c → due_before c os ≡ Some o.timestamp
   due-first [] h e q = let z : ◌≡◌ {A = ℕ} 0 1 = cc in absurd (omega arith)
@@ -61,10 +57,6 @@ module _ (c : ℕ) (o : Output) where
       rw (le-ltb x.timestamp c (omega arith)) (ap (least output_time) (keep-none (λ o. ltb o.timestamp c) os (λ y m. let w = h y m in le-ltb y.timestamp c (omega arith))))
 
 -- delivering ------------------------------------------------------------------------
-
-pub none-waits : (c : ℕ) (os : List Output) → slice_get os 0 ≡ None → Each (λ (o : Output). c < o.timestamp) os
-none-waits c [] e = λ x m. absurd m
-none-waits c (o ∷ os) e = let z : ◌≡◌ {A = ℕ} 0 1 = cc in absurd (omega arith)
 
 pub none_due : (c : ℕ) (o : Output) (os : List Output) → FirstLeast os → slice_get os 0 ≡ Some o → c < o.timestamp →
     Each (λ (o : Output). c < o.timestamp) os

@@ -1,9 +1,7 @@
-use Rattle.std.proofs.Common.{List, get_or, Some, sym, ap, ◌∙◌}
+use Rattle.std.proofs.Common.{get_or, Some, sym, ap, ◌∙◌}
 use Rattle.std.proofs.lemmas.Bool.{eq-eqb, ne_eqb}
-use Rattle.std.proofs.lemmas.List.{take_all}
-use Rattle.runs.specs.Lists.{keep, least, lower}
+use Rattle.runs.specs.Lists.{lower}
 use Rattle.runs.specs.State.{at_actor, event_time}
-use Rattle.runs.specs.declared.records.Event.{Event}
 use Rattle.runtime.proofs.Leasts.{least_more, least-same, no_event}
 use Rattle.runtime.proofs.events.first_at.Goals as goal
 use Rattle.runtime.proofs.events.first_at.Goals.{then-from-actor, else-from-actor}
@@ -20,8 +18,3 @@ loop-event-preserved c =
       | else-from-actor w ↦ w.first-is ∙ c.loop-event.invariant
           ∙ sym (least-same event_time (at_actor a) es i no_event c.loop-event-test.true (ne_eqb e.actor a (λ p. w.if-from-actor.false (c.from.ensures ∙ p))))
     ]
-
-pub returns : goal.returns
-returns c =
-    c.loop-event.invariant ∙ ap (λ (es : List Event). least event_time (keep (at_actor c.args.actor) es))
-    (take_all c.loop-event.event-index c.args.events.now c.loop-event-test.false)

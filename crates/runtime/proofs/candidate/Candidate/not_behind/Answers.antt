@@ -1,12 +1,8 @@
-use Rattle.std.proofs.Common.{◌≡◌, List, get_or, Some, None, sym, ap, ap₂, ◌∙◌}
-use Rattle.std.proofs.lemmas.List.{take_all}
-use Rattle.fault.specs.declared.RunCause.TheVariants.{Behind}
-use Rattle.queue.specs.Held.{held}
+use Rattle.std.proofs.Common.{get_or, Some, sym, ap, ap₂, ◌∙◌}
 use Rattle.project.specs.Project.{line}
 use Rattle.project.proofs.Wired.{in-at}
-use Rattle.runs.specs.Calls.{could_reach, event_actor, first_met}
-use Rattle.runs.specs.Lists.{keep, least, lower}
-use Rattle.runs.specs.declared.records.Event.{Event}
+use Rattle.runs.specs.Calls.{could_reach, event_actor}
+use Rattle.runs.specs.Lists.{lower}
 use Rattle.runtime.specs.Meant.{no_rows}
 use Rattle.runtime.specs.Model.{state_over}
 use Rattle.runtime.proofs.Leasts.{least_more, least-same, no_event}
@@ -33,17 +29,3 @@ loop-event-preserved c =
       | else-reached_by w ↦ w.lowest-is ∙ c.loop-event.invariant
           ∙ sym (least-same event_actor reach es i no_event c.loop-event-test.true (sym w.if-reached_by.ensures))
     ]
-
-pub returns-in-Some : goal.returns-in-Some
-returns-in-Some c =
-    let reach = could_reach (line c.args.self.now.core.now.project) c.args.self.now.firing.actor c.args.self.now.firing.timestamp in
-    let all : Some c.in-Some.actor ≡ least event_actor (keep reach (held c.args.self.now.core.now.events.waiting)) =
-    sym c.in-Some.is ∙ c.loop-event.invariant ∙ ap (λ (es : List Event). least event_actor (keep reach es))
-    (take_all c.loop-event.event-index c.waiting-events.result.now c.loop-event-test.false ∙ c.waiting-events.ensures) in
-    ap (λ v. first_met Behind v None) all
-
-pub returns-in-None : goal.returns-in-None
-returns-in-None c =
-    let reach = could_reach (line c.args.self.now.core.now.project) c.args.self.now.firing.actor c.args.self.now.firing.timestamp in
-    ap (λ v. first_met Behind v None) (sym c.in-None.is ∙ c.loop-event.invariant ∙ ap (λ (es : List Event). least event_actor (keep reach es))
-    (take_all c.loop-event.event-index c.waiting-events.result.now c.loop-event-test.false ∙ c.waiting-events.ensures))

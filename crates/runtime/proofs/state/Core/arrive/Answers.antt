@@ -1,4 +1,4 @@
-use Rattle.std.proofs.Common.{◌≡◌, ◌+◌, ◌<◌, ◌≤◌, length, Some, sym, refl, ap, ◌∙◌, subst, ap₂, w32, rules, arith, lit<}
+use Rattle.std.proofs.Common.{◌<◌, length, Some, sym, refl, ap, ◌∙◌, subst, ap₂, w32, rules}
 use Rattle.std.proofs.lemmas.Int.{to_z-of_z}
 use Rattle.std.specs.Result.{result_err}
 use Rattle.runs.specs.Lists.{put_all}
@@ -9,10 +9,10 @@ use Rattle.runs.specs.Safe.{Secure}
 use Rattle.bounded.specs.Held as bounded
 use Rattle.queue.specs.Held.{held}
 use Rattle.project.specs.Project.{line}
-use Rattle.runtime.specs.Meant.{listed, no_rows}
+use Rattle.runtime.specs.Meant.{no_rows}
 use Rattle.runtime.specs.Model.{state_over}
 use Rattle.runtime.proofs.Sensors.{same-lateness}
-use Rattle.runtime.proofs.States.{arrive_room, one_event, arrived-state, secure-arrived, accepted}
+use Rattle.runtime.proofs.States.{arrived-state, secure-arrived, accepted}
 use Rattle.runtime.proofs.state.Core.arrive.Goals as goal
 
 pub invariant_of-self : goal.invariant_of-self
@@ -47,16 +47,3 @@ returns c =
       project = refl;
       taking = refl;
     }
-
-pub post-requires : goal.post-requires
-post-requires c =
-    let was = c.args.self.now in
-    let l = line was.project in
-    let free = sym c.takes_in.ensures ∙ ap result_err c.in_ok-takes_in.was in
-    let room = arrive_room l (state_over was no_rows) c.args.sensor c.args.timestamp free in
-    let value = to_z-of_z w32 c.args.value c.ranges.value in
-    let same : listed c.at.result ≡ event_at c.feed-sink.result c.args.timestamp (Some c.args.value) =
-    c.at.ensures ∙ ap (λ v. event_at c.feed-sink.result c.args.timestamp (Some v)) value in
-    let few = one_event c.feed-sink.result c.args.timestamp (Some c.args.value) in
-    let free : length (held c.args.self.now.events.waiting) + length (listed c.at.result) + c.args.self.now.events.aside ≤ 128 =
-    omega (arith, was.inlets, room, few, ap length same) in (lit< tt, free)

@@ -3,15 +3,8 @@ use Rattle.runs.proofs.Secure.{secure-deliver}
 use Rattle.runtime.specs.Model.{state_over}
 use Rattle.runtime.specs.Answers.{handing}
 use Rattle.runtime.specs.Meant.{no_rows}
-use Rattle.runtime.proofs.Waiting.{outputs-first, none-waits, none_due, delivers}
+use Rattle.runtime.proofs.Waiting.{outputs-first, none_due, delivers}
 use Rattle.runtime.proofs.state.Core.deliver.Goals as goal
-
-pub returns-in_default : goal.returns-in_default
-returns-in_default c = record {
-  outcome = λ m. (refl, none-waits _ _ (sym c.first.ensures ∙ c.in_default.is), refl);
-  project = refl;
-  taking = refl;
-}
 
 pub returns-then-self-first : goal.returns-then-self-first
 returns-then-self-first c =

@@ -1,12 +1,8 @@
 use Rattle.std.proofs.Common.{None, sym, ap, ◌∙◌}
 use Rattle.fault.specs.declared.RunCause.TheVariants.{Due}
 use Rattle.runs.specs.Calls.{first_met}
-use Rattle.runtime.proofs.Waiting.{outputs-first, due-none, due-first, due-later}
+use Rattle.runtime.proofs.Waiting.{outputs-first, due-first, due-later}
 use Rattle.runtime.proofs.state.Core.none_due_before.Goals as goal
-
-pub returns-in_default : goal.returns-in_default
-returns-in_default c =
-    ap (λ v. first_met Due v None) (sym (due-none c.args.clock _ (sym c.first.ensures ∙ c.in_default.is)))
 
 pub returns-then-first-clock : goal.returns-then-first-clock
 returns-then-first-clock c =

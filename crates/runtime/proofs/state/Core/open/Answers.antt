@@ -1,4 +1,4 @@
-use Rattle.std.proofs.Common.{sym, refl, subst}
+use Rattle.std.proofs.Common.{sym, subst}
 use Rattle.bounded.specs.Held as bounded
 use Rattle.queue.specs.Held as queue
 use Rattle.project.specs.Project.{line}
@@ -12,12 +12,3 @@ invariant_of-result c =
     let same = fresh-state c.sensor_rows.result (queue.held c.new.result.waiting) (bounded.held c.new-2.result)
     (queue.held c.new-3.result.waiting) no_bank c.sensor_rows.ensures.silent c.new.ensures.waiting c.new-2.ensures
     c.new-3.ensures.waiting in record { secure = subst (Secure (line c.args.project)) (sym same) (secure-open _ no_bank); known = c.sensor_rows.ensures.known; inlets = rw c.new-2.ensures c.new.ensures.aside; actuators = rw c.new-2.ensures c.new-3.ensures.aside }
-
-pub returns : goal.returns
-returns c = record {
-  project = refl;
-  taking = refl;
-  state = λ m. fresh-state c.sensor_rows.result (queue.held c.new.result.waiting) (bounded.held c.new-2.result)
-      (queue.held c.new-3.result.waiting) m c.sensor_rows.ensures.silent c.new.ensures.waiting c.new-2.ensures
-      c.new-3.ensures.waiting;
-}

@@ -1,15 +1,10 @@
-use Rattle.std.proofs.Common.{◌≡◌, length, Some, None, sym, refl, ap, ◌∙◌, subst, ap₂, add-one, arith}
+use Rattle.std.proofs.Common.{◌≡◌, length, Some, None, sym, refl, ap, ◌∙◌, subst, arith}
 use Rattle.project.specs.Project.{line, plan}
-use Rattle.runtime.specs.Keys.{key_of, lesser}
+use Rattle.runtime.specs.Keys.{key_of}
 use Rattle.runtime.specs.Meant.{no_rows}
 use Rattle.runtime.specs.Model.{state_over}
 use Rattle.runtime.proofs.Picks.{least_key, LeastKey, least-is, pick-none, pick_some}
 use Rattle.runtime.proofs.state.Core.pick.Goals as goal
-
-pub loop-actor-preserved : goal.loop-actor-preserved
-loop-actor-preserved c =
-    let f = key_of (line c.args.self.now.project) (state_over c.args.self.now no_rows) in
-    c.lesser-least.ensures ∙ ap₂ lesser c.loop-actor.invariant c.key.ensures ∙ sym (ap (least_key f) (add-one c.loop-actor.actor))
 
 pub returns-in-Some : goal.returns-in-Some
 returns-in-Some c =

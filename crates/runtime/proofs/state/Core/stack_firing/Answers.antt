@@ -6,7 +6,7 @@ use Rattle.runs.specs.Safe.{Secure}
 use Rattle.runs.specs.State.{aside, started, to_actuator, to_inlet}
 use Rattle.runtime.specs.Meant.{no_rows}
 use Rattle.runtime.specs.Model.{state_over}
-use Rattle.runtime.proofs.States.{event_places-fit, output_places-fit, pushed, secure-started, stacked_on, started-state}
+use Rattle.runtime.proofs.States.{event_places-fit, pushed, secure-started, stacked_on, started-state}
 use Rattle.runtime.proofs.state.Core.stack_firing.Goals as goal
 
 pub set_aside-requires : goal.set_aside-requires
@@ -19,17 +19,6 @@ set_aside-requires c =
     let fit = event_places-fit l (started s a t) (secure-started l was.project.sound s a t c.requires.accepted c.requires.first was.secure) in
     let room : length (queue.held c.take-inlets.new.events.waiting) + (c.leading-events.result + c.take-inlets.new.events.aside) ≤ 128 =
     omega (arith, fit, ap length c.take-inlets.ensures.waiting, c.take-inlets.ensures.aside, c.leading-events.ensures.value, was.inlets) in (lit< tt, room)
-
-pub set_aside-requires-2 : goal.set_aside-requires-2
-set_aside-requires-2 c =
-    let was = c.args.self.now in
-    let l = line was.project in
-    let s = state_over was no_rows in
-    let a = c.args.firing.actor in
-    let t = c.args.firing.timestamp in
-    let fit = output_places-fit l (started s a t) (secure-started l was.project.sound s a t c.requires.accepted c.requires.first was.secure) in
-    let room : length (queue.held c.args.self.now.outputs.waiting) + (c.leading-outputs.result + c.args.self.now.outputs.aside) ≤ 64 =
-    omega (arith, fit, c.leading-outputs.ensures.value, was.actuators) in (lit< tt, room)
 
 pub invariant_of-self : goal.invariant_of-self
 invariant_of-self c =
