@@ -1,15 +1,14 @@
 -- The ends of runs.
-use Rattle.std.proofs.Common.{Vec, Global, ◌≡◌, Bool, true, not, ◌&&◌, eqb, List, [], ◌∷◌, ◌++◌, length, IfOk, Ok, Err, vec_items, Decides, Result, sym, refl, ap, ◌∙◌, subst, arith}
+use Rattle.std.proofs.Common.{Vec, Global, ◌≡◌, Bool, true, ◌&&◌, eqb, List, [], ◌∷◌, ◌++◌, length, IfOk, Ok, Err, vec_items, Decides, Result, sym, refl, ap, ◌∙◌, subst, arith}
 use Rattle.std.proofs.lemmas.Bool.{and_from, and_parts, eq-eqb, eqb-true, not-true}
 use Rattle.banks.specs.Meaning.{Meaning}
 use Rattle.project.specs.Project.{line}
 use Rattle.project.specs.declared.project.Project.{Project}
-use Rattle.runs.specs.Calls.{status}
 use Rattle.runs.specs.Runs.{Complete, Journal, Runs, opened}
 use Rattle.runs.specs.State.{State}
 use Rattle.runs.specs.declared.records.Call.{Call}
-use Rattle.runs.specs.declared.records.Call.TheVariants.{Report, Close}
-use Rattle.runs.specs.declared.records.Answer.TheVariants.{Told, Done}
+use Rattle.runs.specs.declared.records.Call.TheVariants.{Close}
+use Rattle.runs.specs.declared.records.Answer.TheVariants.{Done}
 use Rattle.runs.specs.declared.records.Status.{Status}
 use Rattle.runs.specs.declared.records.Step.{Step}
 use Rattle.runtime.specs.Model.{Does, Opened, state}
@@ -22,14 +21,6 @@ use Rattle.simulation.specs.declared.Run.{Run}
 use Rattle.simulation.proofs.Work.{worked-step, worked-then}
 
 module _ {B : Type 0} (means : B → Meaning) where
-  told : (i : Inner B) (r : Status) → Does means i Report (Told r) i → r ≡ status (state means i)
-  told i r d = let e = d.outcome.0 in cc
-
-  -- a run that tells a runtime as it is
-  pub tells : (i : Inner B) (r : Run) (b : B) → r.closed ≡ not i.core.taking → Does means i Report (Told r.status) i →
-      b ≡ i.bank → Tells (state means i) r (means b)
-  tells i r b c d e = record { closed = c; status = told i r.status d; rows = ap (λ (b : B). (means b).rows) e }
-
   -- a run from open on, of the calls cs
   ran : (p : Project) (b : B) (i j : Inner B) (cs : List Call) (r : Run) (n : B) →
       Opened means p b i → Worked means i [] j (vec_items r.journal) → called (vec_items r.journal) ≡ existing cs →
@@ -88,9 +79,9 @@ none [] e = refl
 none (x ∷ xs) e = absurd (omega arith)
 
 -- closed, with nothing left
-pub complete-by : (s : State) (r : Run) (n : Meaning) (b : Bool) → Tells s r n → r.closed ≡ true →
+pub complete_by : (s : State) (r : Run) (n : Meaning) (b : Bool) → Tells s r n → r.closed ≡ true →
     b ≡ eqb r.status.events 0 && (eqb r.status.firings 0 && eqb r.status.outputs 0) → Decides b (Complete s)
-complete-by s r n b t c e = (
+complete_by s r n b t c e = (
   λ o.
       let all = and_parts _ _ (sym e ∙ o) in
       let back = and_parts _ _ all.1 in

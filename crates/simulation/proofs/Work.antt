@@ -1,5 +1,5 @@
 -- Journals that go on being runs.
-use Rattle.std.proofs.Common.{◌≡◌, ℕ, ◌+◌, ◌<◌, Bool, true, false, cond, not, List, [], ◌∷◌, ◌++◌, length, get_or, drop, pos, sym, refl, ap, ◌∙◌, subst, append_assoc}
+use Rattle.std.proofs.Common.{◌≡◌, ℕ, ◌+◌, ◌<◌, Bool, true, false, cond, not, List, [], ◌∷◌, ◌++◌, length, get_or, drop, pos, sym, ap, ◌∙◌, subst, append_assoc}
 use Rattle.std.proofs.lemmas.List.{at_drop_more, map-append}
 use Rattle.line.specs.Plan.{Plan}
 use Rattle.line.specs.Times.{Line}
@@ -43,9 +43,6 @@ outcome-by l m j s Report r z e o = o
 outcome-by l m j s Close r z e o = o
 
 module _ {B : Type 0} (means : B → Meaning) where
-  pub worked-none : (i : Inner B) (h : Journal) → Worked means i h i h
-  worked-none i h = record { runs = λ m e r. r; project = refl; reaction = refl }
-
   pub worked-step : (i : Inner B) (h : Journal) (j : Inner B) (k : Journal) (c : Call) (a : Answer) (n : Inner B) (k' : Journal) →
       Worked means i h j k → Performs means j c a n → k' ≡ k ++ record { call = c; answer = a } ∷ [] → Worked means i h n k'
   worked-step i h j k c a n k' w d e = record {

@@ -23,10 +23,7 @@ fn answered<T, F: FnOnce(T) -> Answer>(returned: Result<T, Fault>, accepted: F) 
     requires { F.IsAlwaysCallable accepted }
     ensures { elim returned [ Ok x ↦ F.post accepted x result | Err fault ↦ result ≡ Refused fault ] }
 {
-    match returned {
-        Ok(given) => accepted(given),
-        Err(fault) => Answer::Refused(fault),
-    }
+    returned.map_or_else(Answer::Refused, accepted)
 }
 
 // Makes a call that a runtime has in every phase; none for the others.

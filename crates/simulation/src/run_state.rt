@@ -16,6 +16,7 @@ fn nothing_left(status: Status) -> bool
 
 impl Run {
     // Whether the runtime is closed, with no event, firing or output left.
+    #[tactic(auto, using(crate::proofs::Ends::complete_by))]
     pub fn is_complete(&self) -> bool
         ensures { (s : State) (n : Meaning) → Tells s self.now n → Decides result (Complete s) }
     {
