@@ -3,6 +3,7 @@ use Rattle.std.proofs.Common.{◌≡◌, ℕ, suc, ◌+◌, ◌<◌, ◌≤◌, 
 use mathlib.Core.List.{reverse-cons}
 use Rattle.std.specs.List.{flat_map}
 use Rattle.std.proofs.lemmas.List.{reverse-reverse}
+use Rattle.std.proofs.lemmas.List.Elements.{filter-append}
 use Rattle.std.proofs.lemmas.Bool.{both_ways, ltb-true, ltb-false, eqb-true, eq-eqb, cases_lt}
 use Rattle.line.specs.Lists.{In}
 use Rattle.runs.specs.Lists.{Each, Pairs, keep, put, put_all, Ordered, Without, here, later}
@@ -81,14 +82,7 @@ keep-in f [] x h m = m
 keep-in f (y ∷ ys) x h m = stay-step f y x ys (keep-in f ys x h) (f y) refl h m
 
 pub keep_append : {A : Type 0} (f : A → Bool) (xs ys : List A) → keep f (xs ++ ys) ≡ keep f xs ++ keep f ys
-keep_append f [] ys = refl
-keep_append {A} f (x ∷ xs) ys = let h = keep_append f xs ys in
-    elim (f x) as (λ b. cond b (x ∷ keep f (xs ++ ys)) (keep f (xs ++ ys)) ≡ cond b (x ∷ keep f xs)
-    (keep f xs) ++ keep
-    f ys) [
-      | true ↦ ap (λ (l : List A). x ∷ l) h
-      | false ↦ h
-    ]
+keep_append = filter-append
 
 pub keep-reverse : {A : Type 0} (f : A → Bool) (xs : List A) → keep f (reverse xs) ≡ reverse (keep f xs)
 keep-reverse f [] = refl

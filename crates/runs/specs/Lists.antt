@@ -1,5 +1,6 @@
 -- Words on lists that the definitions of a run use.
 use Rattle.std.specs.Prelude.{ℕ, ◌≤◌, min, Bool, cond, List, [], ◌∷◌, Some, None, Option, ◌==◌}
+use Rattle.std.specs.List.{filter}
 use Rattle.line.specs.Lists.{In}
 -- an element put into a list that is ordered by rank, behind those of its rank
 pub use Rattle.queue.specs.Order.{put}
@@ -15,8 +16,7 @@ Pairs R (x ∷ xs) = Each (R x) xs × Pairs R xs
 
 -- the elements that pass a test, in order
 abbrev pub keep : {A : Type 0} → (A → Bool) → List A → List A
-keep f [] = []
-keep f (x ∷ xs) = cond (f x) (x ∷ keep f xs) (keep f xs)
+keep = filter
 
 -- several put in, one after another
 abbrev pub put_all : {A : Type 0} → (A → ℕ) → List A → List A → List A

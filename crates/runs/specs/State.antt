@@ -25,15 +25,7 @@ pub record State : Type 0 where
 
 -- the same state with other rows: a state as it is without its bank
 abbrev pub with_rows : State → (ℕ → List ℤ) → State
-with_rows s w = record {
-  clock = s.clock;
-  taking = s.taking;
-  last = s.last;
-  events = s.events;
-  stack = s.stack;
-  outputs = s.outputs;
-  rows = w;
-}
+with_rows s w = record s { rows = w }
 
 -- a runtime as it is opened over a bank
 abbrev pub fresh : Meaning → State
@@ -180,45 +172,24 @@ firing p m s f = firing_of p f (reacted m s f).outlets
 
 -- the event waits at the inlet that the sensor feeds
 abbrev pub arrived : Line → State → ℕ → ℕ → ℤ → State
-arrived l s x t v = record {
-  clock = s.clock;
-  taking = s.taking;
+arrived l s x t v = record s {
   last = changed s.last x (Some t);
   events = put_all event_time (event_at (feed l.plan x) t (Some v)) s.events;
-  stack = s.stack;
-  outputs = s.outputs;
-  rows = s.rows;
 }
 
 abbrev pub advanced : State → ℕ → State
-advanced s c = record {
-  clock = c;
-  taking = s.taking;
-  last = s.last;
-  events = s.events;
-  stack = s.stack;
-  outputs = s.outputs;
-  rows = s.rows;
-}
+advanced s c = record s { clock = c }
 
 -- the events taken are stacked as one firing
 abbrev pub started : State → ℕ → ℕ → State
-started s a t = record {
-  clock = s.clock;
-  taking = s.taking;
-  last = s.last;
+started s a t = record s {
   events = keep (λ e. not (taken a t e)) s.events;
   stack = running s a t ∷ s.stack;
-  outputs = s.outputs;
-  rows = s.rows;
 }
 
 -- f was the top of the stack and fs the rest; r is what the reaction gave: it is sent on, and the row is kept
 abbrev pub unstacked : Line → State → Running → List Running → Reacted → State
-unstacked l s f fs r = record {
-  clock = s.clock;
-  taking = s.taking;
-  last = s.last;
+unstacked l s f fs r = record s {
   events = put_all event_time (events_sent l.plan (firing_of l.plan f r.outlets)) s.events;
   stack = fs;
   outputs = put_all output_time (outputs_sent l.plan (firing_of l.plan f r.outlets)) s.outputs;
@@ -230,24 +201,8 @@ finished l m s f fs = unstacked l s f fs (reacted m s f)
 
 -- os are the outputs that are left
 abbrev pub delivered : State → List Output → State
-delivered s os = record {
-  clock = s.clock;
-  taking = s.taking;
-  last = s.last;
-  events = s.events;
-  stack = s.stack;
-  outputs = os;
-  rows = s.rows;
-}
+delivered s os = record s { outputs = os }
 
 -- the same content, but no more events
 abbrev pub closed : State → State
-closed s = record {
-  clock = s.clock;
-  taking = false;
-  last = s.last;
-  events = s.events;
-  stack = s.stack;
-  outputs = s.outputs;
-  rows = s.rows;
-}
+closed s = record s { taking = false }

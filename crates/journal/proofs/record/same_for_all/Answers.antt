@@ -8,6 +8,5 @@ use Rattle.journal.proofs.record.same_for_all.Goals as goal
 pub returns-clause-below : goal.returns-clause-below
 returns-clause-below g c =
     let same = λ (n : ℕ). told_of g.E.Entry.kind n c.args.first.now ≡ told_of g.E.Entry.kind n c.args.second.now in
-    let cases = cases_from_all _ _ c.all.result same (λ n. same n → ⊥) c.all.ensures.ran
-    (YieldsList-from_range 0 256 256 (search rules) refl) (λ x q k. search (rules, tests)) (λ x q k. search (rules, tests)) in
-    decides-range same 256 c.all.result cases
+    decides-range same 256 c.all.result (cases_from_all _ _ _ same (λ n. same n → ⊥) c.all.ensures.ran
+    (YieldsList-from_range 0 256 256 (search rules) refl) (λ x q k. search (rules, tests)) (λ x q k. search (rules, tests)))
