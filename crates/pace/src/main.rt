@@ -1,34 +1,23 @@
 // Works a line as often as asked, for counting instructions: days of one event each, or picks on a line full of events.
 #![tactic(auto)]
 
+use inputs::arguments;
 use project::project::Project;
 use runs::records::Firing;
 use runtime::runtime::OpenRuntime;
+use std::fs;
 use std::mem::size_of;
-use std::{env, fs};
 use supplied::bank::Supplied;
-
-// A firing that finish writes over.
-const BLANK: Firing = Firing {
-    actor: 0,
-    timestamp: 0,
-    inlets: [None; 4],
-    outlets: [None; 4],
-};
 
 // From one event to the next.
 const DAY: u64 = 1000;
 
 fn main(rt: HostRuntime) -> anyhow::Result<()> {
-    let mut words = Vec::new(rt.alloc());
-    for word in env::args(&rt)?.skip(1) {
-        words.push(word)?;
-    }
-    match words.as_slice() {
+    match arguments(&rt)?.as_slice() {
         [name, days, picks] => {
-            let days = days.as_str().parse::<u32>().unwrap_or(0);
-            let picks = picks.as_str().parse::<u32>().unwrap_or(0);
-            work(&rt, name.as_str(), days, picks)
+            let days = days.parse::<u32>().unwrap_or(0);
+            let picks = picks.parse::<u32>().unwrap_or(0);
+            work(&rt, name, days, picks)
         }
         _ => {
             println!(rt;
@@ -69,7 +58,7 @@ fn follow(line: &mut OpenRuntime<Supplied>, start: u64) -> bool {
     let _ = line.arrive(0, start, 7);
     let _ = line.advance(start.saturating_add(61));
     for actor in 0..3 {
-        let mut firing = BLANK;
+        let mut firing = Firing::default();
         let _ = line.start(actor);
         let _ = line.finish(&mut firing);
     }

@@ -10,14 +10,6 @@ use runs::records::{Answer, Call, Firing};
 use runtime::runtime::Runtime;
 use runtime::runtime::phase::{Closed, Open, Phase};
 
-// A firing that finish writes over.
-const BLANK: Firing = Firing {
-    actor: 0,
-    timestamp: 0,
-    inlets: [None; 4],
-    outlets: [None; 4],
-};
-
 // What a call returned, as an answer of a journal.
 fn answered<T, F: FnOnce(T) -> Answer>(returned: Result<T, Fault>, accepted: F) -> Answer
     requires { F.IsAlwaysCallable accepted }
@@ -36,7 +28,7 @@ fn ask_any<B: Bank, S: Phase>(line: &mut Runtime<B, S>, call: Call) -> Option<An
         Call::Pick => Some(answered(line.pick(), Answer::Named)),
         Call::Start(actor) => Some(answered(line.start(actor), Answer::Fired)),
         Call::Finish => {
-            let mut firing = BLANK;
+            let mut firing = Firing::default();
             let finished = line.finish(&mut firing);
             Some(answered(finished, |()| Answer::Wrote(firing)))
         }
