@@ -18,7 +18,7 @@ pub struct Actor {
     pub delay: u32,
 }
 
-// Where a channel begins.
+// Where a channel begins. The order of a project's channels is that of these cases and numbers: sensors come first.
 #[derive(Clone, Copy, PartialEq, Eq, PartialOrd, Ord, Debug)]
 pub enum Source {
     Sensor(u8),

@@ -64,7 +64,7 @@ fn check_actuators(draft: &Draft) -> Result<(), Fault>
     ensures { Cleared (Unfed (plan_of draft.now)) (λ q. OfGraph Unwired (16 + q)) result }
 {
     refuse(
-        draft.actuators as usize,
+        usize::from(draft.actuators),
         |q| is_unfed(draft, q),
         |q| Fault::Graph(GraphCause::Unwired, 16 + q),
     )

@@ -53,7 +53,7 @@ pub fn is_idle(draft: &Draft, sensor: usize) -> bool
 pub fn is_unfed(draft: &Draft, actuator: usize) -> bool
     ensures { Decides result (Unfed (plan_of draft.now) actuator) }
 {
-    if actuator >= draft.actuators as usize {
+    if actuator >= usize::from(draft.actuators) {
         return false;
     }
     origin_of(draft.channels.as_slice(), Sink::Actuator(actuator as u8)).is_none()

@@ -22,8 +22,8 @@ fn place_of(sink: Sink) -> usize
     ensures { result ≡ place_of sink }
 {
     match sink {
-        Sink::Inlet { actor, inlet: _ } => actor as usize,
-        Sink::Actuator(_) => EXIT as usize,
+        Sink::Inlet { actor, inlet: _ } => usize::from(actor),
+        Sink::Actuator(_) => usize::from(EXIT),
     }
 }
 
@@ -40,8 +40,8 @@ fn lay(table: &mut [Span; 1089], draft: &Draft, channel: Channel)
     ensures { Adds (plan_of draft.now) channel table.old table.new }
 {
     if let Source::Outlet { actor, outlet } = channel.source {
-        let delay = delay_at(draft, actor as usize, outlet as usize);
-        let place = actor as usize * PLACES + place_of(channel.sink);
+        let delay = delay_at(draft, usize::from(actor), usize::from(outlet));
+        let place = usize::from(actor) * PLACES + place_of(channel.sink);
         table[place] = table[place].pick(Span::micros(delay));
     }
 }
@@ -93,7 +93,7 @@ impl<'a> Records<'a> {
 fn cell<T: Copy>(table: &[T], b: u8, a: u8) -> Option<T>
     ensures { result ≡ slice_get table.now (b * places + a) }
 {
-    table.get(b as usize * PLACES + a as usize).copied()
+    table.get(usize::from(b) * PLACES + usize::from(a)).copied()
 }
 
 // Whether the table leads from b to a.

@@ -34,7 +34,7 @@ impl Distances<'_> {
         else {
             return None;
         };
-        let late = lateness_of(self.draft, sensor as usize) as i64;
+        let late = i64::from(lateness_of(self.draft, usize::from(sensor)));
         if fed == actor {
             return Some(late);
         }

@@ -7,5 +7,5 @@ use Rattle.project.proofs.checks.check_actuators.Goals as goal
 
 pub returns : goal.returns
 returns c =
-    cleared (Unfed (plan_of c.args.draft.now)) _ _ _ _ _ _ c.refuse.ensures
+    cleared (Unfed (plan_of c.args.draft.now)) _ _ _ _ _ _ (rw c.from.ensures at c.refuse.ensures)
     (λ k m. m.0) (λ k y. search (rules, tests, told)) (λ k y. search (rules, tests, told)) (λ k e m. search (rules, tests))
