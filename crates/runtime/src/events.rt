@@ -52,7 +52,7 @@ fn could_reach(project: &Project, event: &Event, actor: u8, timestamp: u64) -> b
     requires target { actor < length (plan project.now).actors }
     ensures { result ≡ could_reach (line project.now) actor timestamp event.now }
 {
-    let distance = project.distance(event.actor as usize, actor as usize);
+    let distance = project.distance(usize::from(event.actor), usize::from(actor));
     within(distance, event.timestamp, timestamp)
 }
 
@@ -67,7 +67,7 @@ impl Candidate<'_> {
         let events = self.core.events.waiting();
         for event in events {
             if could_reach(project, event, actor, timestamp) {
-                lowest = Some(lower(event.actor as u64, lowest));
+                lowest = Some(lower(u64::from(event.actor), lowest));
             }
         }
         match lowest {

@@ -27,7 +27,7 @@ loop-event-preserved c =
     let reach = could_reach (line c.args.self.now.core.now.project) c.args.self.now.firing.actor c.args.self.now.firing.timestamp in
     let e = get_or es i no_event in
     elim c.if-could_reach.branch [
-      | then-could_reach w ↦ w.lowest-is ∙ ap Some (w.lower.ensures ∙ ap (lower e.actor) c.loop-event.invariant)
+      | then-could_reach w ↦ w.lowest-is ∙ ap Some (w.lower.ensures ∙ ap₂ lower w.from.ensures c.loop-event.invariant)
           ∙ sym (least_more event_actor reach es i no_event c.loop-event-test.true (sym w.if-could_reach.ensures))
       | else-could_reach w ↦ w.lowest-is ∙ c.loop-event.invariant
           ∙ sym (least-same event_actor reach es i no_event c.loop-event-test.true (sym w.if-could_reach.ensures))
