@@ -16,11 +16,7 @@ use runs::records::Event;
 fn lower(number: u64, before: Option<u64>) -> u64
     ensures { result ≡ lower number before }
 {
-    // A match: with `map_or` and `min` a pick takes a twelfth more instructions.
-    match before {
-        Some(other) if other < number => other,
-        _ => number,
-    }
+    before.map_or(number, |other| other.min(number))
 }
 
 // The least timestamp of the events that wait at an actor.
@@ -47,6 +43,7 @@ fn within(distance: Option<u64>, from: u64, to: u64) -> bool
 }
 
 // Whether what an event leads to could still come to an actor by a timestamp.
+// It asks values: as a method of the candidate it made a pick on the largest line a quarter slower.
 fn could_reach(project: &Project, event: &Event, actor: u8, timestamp: u64) -> bool
     requires source { event.now.actor < length (plan project.now).actors }
     requires target { actor < length (plan project.now).actors }

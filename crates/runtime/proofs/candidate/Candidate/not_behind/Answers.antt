@@ -1,4 +1,4 @@
-use Rattle.std.proofs.Common.{get_or, Some, sym, ap, ◌∙◌}
+use Rattle.std.proofs.Common.{get_or, Some, sym, ap, ap₂, ◌∙◌}
 use Rattle.project.specs.Project.{line}
 use Rattle.project.proofs.Wired.{in-at}
 use Rattle.runs.specs.Calls.{could_reach, event_actor}
