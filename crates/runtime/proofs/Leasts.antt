@@ -1,5 +1,5 @@
 -- The least of what a loop has kept so far.
-use Rattle.std.proofs.Common.{◌≡◌, ℕ, ◌+◌, ◌<◌, min, Bool, true, false, cond, ◌&&◌, eqb, List, [], ◌∷◌, ◌++◌, length, get_or, take, drop, pos, Some, None, Option, sym, refl, ap, ◌∙◌, append-nil, arith}
+use Rattle.std.proofs.Common.{◌≡◌, ℕ, ◌+◌, ◌<◌, min, Bool, true, false, cond, ◌&&◌, eqb, List, [], ◌∷◌, ◌++◌, length, get_or, take, drop, pos, Some, None, Option, sym, refl, ap, ◌∙◌, append-nil, arith, length-append}
 use Rattle.std.proofs.lemmas.Bool.{true≢false}
 use Rattle.runs.specs.State.{value_for}
 use Rattle.runs.specs.declared.records.Event.{Event}
@@ -19,6 +19,12 @@ least-push f x (y ∷ ys) =
 module _ {A : Type 0} (f : A → ℕ) (p : A → Bool) (xs : List A) (i : ℕ) (d : A) (h : i < length xs) where
   kept-one : (b : Bool) → p (get_or xs i d) ≡ b → keep p (take (i + 1) xs) ≡ keep p (take i xs) ++ cond b (get_or xs i d ∷ []) []
   kept-one b e = ap (keep p) (take_more xs i d h) ∙ keep_append p (take i xs) (get_or xs i d ∷ []) ∙ ap (λ b. keep p (take i xs) ++ cond b (get_or xs i d ∷ []) []) e
+
+  pub length_more : p (get_or xs i d) ≡ true → length (keep p (take (i + 1) xs)) ≡ length (keep p (take i xs)) + 1
+  length_more e = ap length (kept-one true e) ∙ length-append (keep p (take i xs)) (get_or xs i d ∷ [])
+
+  pub length-same : p (get_or xs i d) ≡ false → length (keep p (take (i + 1) xs)) ≡ length (keep p (take i xs))
+  length-same e = ap length (kept-one false e ∙ append-nil (keep p (take i xs)))
 
   pub least_more : p (get_or xs i d) ≡ true → least f (keep p (take (i + 1) xs)) ≡ Some (lower (f (get_or xs i d)) (least f (keep p (take i xs))))
   least_more e = ap (least f) (kept-one true e) ∙ least-push f (get_or xs i d) (keep p (take i xs))

@@ -7,7 +7,9 @@ ghost use Rattle.runs.specs.State.{at_actor, event_time};
 ghost use Rattle.runtime.specs.Candidates.{checks};
 
 use super::candidate::Candidate;
+use super::taken::Taken;
 use fault::{Fault, RunCause};
+use project::project::Project;
 use runs::records::Event;
 
 // The lower of a number and the least of those before it.
@@ -40,25 +42,28 @@ fn within(distance: Option<u64>, from: u64, to: u64) -> bool
     }
 }
 
-impl Candidate<'_> {
-    // Whether what an event leads to could still come to the actor by the timestamp.
-    fn reached_by(&self, event: &Event) -> bool
-        requires { event.now.actor < length (plan self.now.core.now.project).actors }
-        ensures { result ≡ could_reach (line self.now.core.now.project) self.now.firing.actor self.now.firing.timestamp event.now }
-    {
-        let project = &self.core.project;
-        let distance = project.distance(usize::from(event.actor), usize::from(self.firing.actor));
-        within(distance, event.timestamp, self.firing.timestamp)
-    }
+// Whether what an event leads to could still come to an actor by a timestamp.
+// It asks values: as a method of the candidate it made a pick on the largest line a quarter slower.
+fn could_reach(project: &Project, event: &Event, actor: u8, timestamp: u64) -> bool
+    requires source { event.now.actor < length (plan project.now).actors }
+    requires target { actor < length (plan project.now).actors }
+    ensures { result ≡ could_reach (line project.now) actor timestamp event.now }
+{
+    let distance = project.distance(usize::from(event.actor), usize::from(actor));
+    within(distance, event.timestamp, timestamp)
+}
 
+impl Candidate<'_> {
     // No event waits that could still come to the actor by the timestamp. The lowest actor of such an event refuses.
     pub(crate) fn not_behind(&self) -> Result<(), Fault>
         ensures { result_err result ≡ verdict (take 1 (drop 3 (checks self.now))) }
     {
+        let Taken { actor, timestamp } = self.firing;
+        let project = &self.core.project;
         let mut lowest = None;
         let events = self.core.events.waiting();
         for event in events {
-            if self.reached_by(event) {
+            if could_reach(project, event, actor, timestamp) {
                 lowest = Some(lower(u64::from(event.actor), lowest));
             }
         }

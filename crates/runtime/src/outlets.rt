@@ -31,7 +31,7 @@ pub(crate) fn longest_delay(project: &Project, actor: u8) -> u64
 fn place<T: Sent>(project: &Project, actor: u8, outlet: u8) -> u64
     ensures { result ≡ (if T.Sent.leads (wire (plan project.now) actor outlet) then 1 else 0) }
 {
-    u64::from(T::lies_at(project.wire(actor, outlet)))
+    u64::from(T::waits_at(project.wire(actor, outlet)))
 }
 
 // How many outlets of an actor lead to records of a kind: to inlets, or to actuators.

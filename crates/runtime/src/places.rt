@@ -19,7 +19,7 @@ impl Candidate<'_> {
         left + (leading::<Event>(&core.project, self.firing.actor) + core.events.aside)
     }
 
-    // The places for outputs that are held then.
+    // The places for outputs that are held then. It is no twin: a firing takes no outputs.
     pub(crate) fn output_places(&self) -> u64
         ensures { result ≡ output_places (plan self.now.core.now.project) (started (state_over self.now.core.now no_rows) self.now.firing.actor self.now.firing.timestamp) }
     {

@@ -17,8 +17,8 @@ pub trait Sent: Ranked {
     fn at(sink: Option<Sink>, timestamp: u64, value: Option<i32>) -> Option<Self>
         ensures { listed result ≡ made sink timestamp value };
 
-    // Whether a channel leads to records of this kind.
-    fn lies_at(sink: Option<Sink>) -> bool
+    // Whether records of this kind wait at the end of a channel.
+    fn waits_at(sink: Option<Sink>) -> bool
         ensures { result ≡ leads sink };
 }
 
@@ -40,7 +40,7 @@ impl Sent for Event {
         })
     }
 
-    fn lies_at(sink: Option<Sink>) -> bool {
+    fn waits_at(sink: Option<Sink>) -> bool {
         matches!(sink, Some(Sink::Inlet { .. }))
     }
 }
@@ -62,7 +62,7 @@ impl Sent for Output {
         })
     }
 
-    fn lies_at(sink: Option<Sink>) -> bool {
+    fn waits_at(sink: Option<Sink>) -> bool {
         matches!(sink, Some(Sink::Actuator(_)))
     }
 }

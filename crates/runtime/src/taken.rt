@@ -25,7 +25,14 @@ impl Taken {
         ensures value { result ≡ length (keep (λ e. not (taken self.now.actor self.now.timestamp e)) events.now) }
         ensures few { result ≤ length events.now }
     {
-        events.iter().filter(|event| !self.takes(event)).count() as u64
+        // A loop: with `filter` and `count` a pick takes a fifth more instructions.
+        let mut left = 0;
+        for event in events {
+            if !self.takes(event) {
+                left += 1;
+            }
+        }
+        left
     }
 
     // Whether an event is taken, and for an inlet.

@@ -8,14 +8,17 @@ use Rattle.runtime.specs.Model.{state_over}
 use Rattle.runtime.proofs.Leasts.{least_more, least-same, no_event}
 use Rattle.runtime.proofs.States.{event-inside}
 use Rattle.runtime.proofs.candidate.Candidate.not_behind.Goals as goal
-use Rattle.runtime.proofs.candidate.Candidate.not_behind.Goals.{then-reached_by, else-reached_by}
+use Rattle.runtime.proofs.candidate.Candidate.not_behind.Goals.{then-could_reach, else-could_reach}
 
-pub reached_by-requires : goal.reached_by-requires
-reached_by-requires c =
+pub could_reach-requires : goal.could_reach-requires
+could_reach-requires c =
     let es = c.waiting-events.result.now in
     let here = in-at es c.loop-event.event-index no_event c.loop-event-test.true in
     let was = c.args.self.now.core.now in
-    event-inside (line was.project) (state_over was no_rows) es (get_or es c.loop-event.event-index no_event) c.waiting-events.ensures here was.secure
+    record {
+      source = event-inside (line was.project) (state_over was no_rows) es (get_or es c.loop-event.event-index no_event) c.waiting-events.ensures here was.secure;
+      target = c.args.self.now.inside;
+    }
 
 pub loop-event-preserved : goal.loop-event-preserved
 loop-event-preserved c =
@@ -23,9 +26,9 @@ loop-event-preserved c =
     let i = c.loop-event.event-index in
     let reach = could_reach (line c.args.self.now.core.now.project) c.args.self.now.firing.actor c.args.self.now.firing.timestamp in
     let e = get_or es i no_event in
-    elim c.if-reached_by.branch [
-      | then-reached_by w ↦ w.lowest-is ∙ ap Some (w.lower.ensures ∙ ap₂ lower w.from.ensures c.loop-event.invariant)
-          ∙ sym (least_more event_actor reach es i no_event c.loop-event-test.true (sym w.if-reached_by.ensures))
-      | else-reached_by w ↦ w.lowest-is ∙ c.loop-event.invariant
-          ∙ sym (least-same event_actor reach es i no_event c.loop-event-test.true (sym w.if-reached_by.ensures))
+    elim c.if-could_reach.branch [
+      | then-could_reach w ↦ w.lowest-is ∙ ap Some (w.lower.ensures ∙ ap₂ lower w.from.ensures c.loop-event.invariant)
+          ∙ sym (least_more event_actor reach es i no_event c.loop-event-test.true (sym w.if-could_reach.ensures))
+      | else-could_reach w ↦ w.lowest-is ∙ c.loop-event.invariant
+          ∙ sym (least-same event_actor reach es i no_event c.loop-event-test.true (sym w.if-could_reach.ensures))
     ]
