@@ -1,14 +1,8 @@
 use Rattle.std.proofs.lemmas.Result.{err_from_is_err_and}
 use Rattle.std.proofs.Common.{◌∙◌, arith}
 use Rattle.std.proofs.lemmas.List.{take_all}
-use Rattle.image.proofs.Fields.{sort-of, six-at, source-low, sink-low, channel-clean}
+use Rattle.image.proofs.Fields.{sort-of, six-at, sink-low, channel-clean}
 use Rattle.image.proofs.channels.ChannelRow.read.Goals as goal
-
-pub returns-in_err-source : goal.returns-in_err-source
-returns-in_err-source c =
-    let p = err_from_is_err_and c.from_residual.result c.from_residual.ensures.1 in
-    let low = c.in_err-source.ensures in
-    rw (p.1, p.2) (omega (arith, low.0), source-low c.args.bytes.now c.args.counts _ low.0 low.1)
 
 pub returns-in_err-sink : goal.returns-in_err-sink
 returns-in_err-sink c =
