@@ -2,10 +2,8 @@ ghost use Rattle.std.specs.Prelude.{◌≡◌, drop, take};
 ghost use Rattle.std.specs.Result.{result_err};
 ghost use Rattle.project.specs.Project.{line};
 ghost use Rattle.runs.specs.Calls.{answer, start_answer, verdict};
-ghost use Rattle.runs.specs.State.{deadline_at};
-ghost use Rattle.runs.specs.declared.records.Answer.TheVariants.{Fired};
 ghost use Rattle.runtime.specs.Answers.{fired};
-ghost use Rattle.runtime.specs.Candidates.{checks};
+ghost use Rattle.runtime.specs.Candidates.{accepted, checks};
 ghost use Rattle.runtime.specs.Meant.{no_rows};
 ghost use Rattle.runtime.specs.Model.{state_over};
 
@@ -46,7 +44,7 @@ impl Candidate<'_> {
 
     // What a start of the firing answers.
     fn startable(&self) -> Result<Started, Fault>
-        ensures { fired result ≡ answer (verdict (drop 2 (checks self.now))) (Fired (record { actor = self.now.firing.actor; timestamp = self.now.firing.timestamp; deadline = deadline_at (line self.now.core.now.project) self.now.firing.actor self.now.firing.timestamp })) }
+        ensures { fired result ≡ answer (verdict (drop 2 (checks self.now))) (accepted self.now) }
     {
         self.comes_in_order()?;
         self.sends_in_bounds()?;
