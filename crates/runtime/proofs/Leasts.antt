@@ -1,9 +1,10 @@
 -- The least of what a loop has kept so far.
-use Rattle.std.proofs.Common.{◌≡◌, ℕ, ◌+◌, ◌<◌, min, Bool, true, false, cond, ◌&&◌, eqb, List, [], ◌∷◌, ◌++◌, length, get_or, take, drop, pos, Some, None, Option, sym, refl, ap, ◌∙◌, append-nil, arith, length-append}
-use Rattle.std.proofs.lemmas.Bool.{true≢false}
+use Rattle.std.proofs.Common.{◌≡◌, ℕ, ◌+◌, ◌<◌, min, Bool, true, false, cond, ◌&&◌, eqb, List, [], ◌∷◌, ◌++◌, length, get_or, take, pos, Some, None, Option, refl, ap, ◌∙◌, append-nil, arith, length-append}
+use Rattle.std.specs.List.{find}
+use Rattle.std.specs.Option.{option_map}
 use Rattle.runs.specs.State.{value_for}
 use Rattle.runs.specs.declared.records.Event.{Event}
-use Rattle.std.proofs.lemmas.List.{take_more, drop_more}
+use Rattle.std.proofs.lemmas.List.{take_more}
 use Rattle.runs.specs.Lists.{keep, least, lower}
 use Rattle.runs.proofs.Lists.{keep_append}
 
@@ -36,26 +37,15 @@ module _ {A : Type 0} (f : A → ℕ) (p : A → Bool) (xs : List A) (i : ℕ) (
 abbrev pub no_event : Event
 no_event = record { actor = 0; inlet = 0; timestamp = 0; value = pos 0 }
 
--- the value for an inlet among events ---------------------------------------------------
+-- the value for an inlet among the events that pass a test is that of the first that passes it and is for the inlet
+mapped : (b c : Bool) (e : Event) (rest : Option Event) (j : ℕ) (es : List Event) (p : Event → Bool)
+    → eqb e.inlet j ≡ c → option_map (λ x. x.value) rest ≡ value_for j (keep p es)
+    → option_map (λ x. x.value) (cond (b && c) (Some e) rest) ≡ value_for j (cond b (e ∷ keep p es) (keep p es))
+mapped true true e rest j es p q h = rw q refl
+mapped true false e rest j es p q h = rw q h
+mapped false c e rest j es p q h = h
 
-module _ (p : Event → Bool) (j : ℕ) where
-  serving : (e : Event) (es : List Event) (a b : Bool) → p e ≡ a → eqb e.inlet j ≡ b → (a && b) ≡ true →
-      value_for j (keep p (e ∷ es)) ≡ Some e.value
-  serving e es true true x y h = rw x (rw y refl)
-  serving e es true false x y h = absurd (true≢false (sym h))
-  serving e es false b x y h = absurd (true≢false (sym h))
-
-  passing : (e : Event) (es : List Event) (a b : Bool) → p e ≡ a → eqb e.inlet j ≡ b → (a && b) ≡ false →
-      value_for j (keep p (e ∷ es)) ≡ value_for j (keep p es)
-  passing e es true true x y h = absurd (true≢false h)
-  passing e es true false x y h = rw x (rw y refl)
-  passing e es false b x y h = rw x refl
-
-  module _ (es : List Event) (i : ℕ) (h : i < length es) where
-    pub value_found : (p (get_or es i no_event) && eqb (get_or es i no_event).inlet j) ≡ true →
-        value_for j (keep p (drop i es)) ≡ Some (get_or es i no_event).value
-    value_found e = ap (λ (xs : List Event). value_for j (keep p xs)) (drop_more es i no_event h) ∙ serving (get_or es i no_event) (drop (i + 1) es) _ _ refl refl e
-
-    pub value-passed : (p (get_or es i no_event) && eqb (get_or es i no_event).inlet j) ≡ false →
-        value_for j (keep p (drop i es)) ≡ value_for j (keep p (drop (i + 1) es))
-    value-passed e = ap (λ (xs : List Event). value_for j (keep p xs)) (drop_more es i no_event h) ∙ passing (get_or es i no_event) (drop (i + 1) es) _ _ refl refl e
+pub value_first : (p : Event → Bool) (j : ℕ) (es : List Event)
+    → option_map (λ x. x.value) (find (λ e. p e && eqb e.inlet j) es) ≡ value_for j (keep p es)
+value_first p j [] = refl
+value_first p j (e ∷ es) = mapped (p e) (eqb e.inlet j) e _ j es p refl (value_first p j es)

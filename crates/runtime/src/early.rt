@@ -12,8 +12,8 @@ fn passed(clock: u64, timestamp: u64, wait: i64) -> Result<(), Fault>
     requires { timestamp ≤ horizon }
     ensures { result_err result ≡ verdict (refuse Early (when (int_le (pos clock) (pos timestamp +ℤ wait)) (natural ((pos timestamp +ℤ wait) +ℤ pos 1))) ∷ []) }
 {
-    let last = timestamp as i128 + wait as i128;
-    if clock as i128 <= last {
+    let last = i128::from(timestamp) + i128::from(wait);
+    if i128::from(clock) <= last {
         return Err(Fault::Run(RunCause::Early, (last + 1) as u64));
     }
     Ok(())

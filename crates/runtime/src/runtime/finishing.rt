@@ -15,7 +15,7 @@ fn fire<B: Bank>(bank: &mut B, firing: &Running) -> [Option<i32>; 4]
     ensures outlets { result ≡ (fired (B.Bank.means bank.old) firing.now.actor firing.now.timestamp firing.now.inlets).outlets }
     ensures meaning { B.Bank.means bank.new ≡ next (B.Bank.means bank.old) firing.now.actor firing.now.timestamp firing.now.inlets }
 {
-    bank.react(firing.actor as u64, firing.timestamp, firing.inlets)
+    bank.react(u64::from(firing.actor), firing.timestamp, firing.inlets)
 }
 
 impl<B: Bank> Inner<B> {

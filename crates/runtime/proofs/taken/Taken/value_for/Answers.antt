@@ -1,26 +1,16 @@
-use Rattle.std.proofs.Common.{Bool, List, get_or, Some, sym, ap, ◌∙◌, w32, SFits, rules}
-use Rattle.std.proofs.lemmas.List.{drop_all}
-use Rattle.std.proofs.lemmas.Int.{to_z-of_z}
-use Rattle.runs.specs.Lists.{keep}
-use Rattle.runs.specs.State.{taken, value_for}
+use Rattle.std.proofs.Common.{rules, ◌≡◌, ◌∙◌, ◌&&◌, eqb, ap, Bool}
+use Rattle.std.proofs.lemmas.Iterator.{YieldsList-from_slice}
+use Rattle.std.proofs.lemmas.Iterator.Search.{find_from_yields_List}
+use Rattle.std.specs.Option.{option_map}
+use Rattle.runs.specs.State.{taken}
 use Rattle.runs.specs.declared.records.Event.{Event}
-use Rattle.runtime.proofs.Leasts.{value_found, value-passed, no_event}
+use Rattle.runtime.proofs.Leasts.{value_first}
 use Rattle.runtime.proofs.taken.Taken.value_for.Goals as goal
-
-pub returns-then-serves : goal.returns-then-serves
-returns-then-serves c =
-    let es = c.args.events.now in
-    let i = c.loop-event.event-index in
-    let p : Event → Bool = taken c.args.self.now.actor c.args.self.now.timestamp in
-    let fits : SFits w32 (get_or c.args.events.now c.loop-event.event-index no_event).value = search rules in
-    ap Some (to_z-of_z w32 _ fits) ∙ sym (c.loop-event.invariant ∙ value_found p c.args.inlet es i c.loop-event-test.true (sym c.if-serves.ensures))
-
-pub loop-event-preserved : goal.loop-event-preserved
-loop-event-preserved c =
-    let p : Event → Bool = taken c.args.self.now.actor c.args.self.now.timestamp in
-    c.loop-event.invariant ∙ value-passed p c.args.inlet c.args.events.now c.loop-event.event-index c.loop-event-test.true (sym c.if-serves.ensures)
 
 pub returns : goal.returns
 returns c =
     let p : Event → Bool = taken c.args.self.now.actor c.args.self.now.timestamp in
-    sym (c.loop-event.invariant ∙ ap (λ (es : List Event). value_for c.args.inlet (keep p es)) (drop_all c.loop-event.event-index c.args.events.now c.loop-event-test.false))
+    let test : Event → Bool = λ e. p e && eqb e.inlet c.args.inlet in
+    let a = find_from_yields_List test _ _ c.find.result c.find.ensures.ran (YieldsList-from_slice c.args.events.now cc) (λ x b q k. search rules) in
+    let b : c.map.result ≡ option_map (λ e. e.value) (option_map (λ e. e.now) c.find.result) = search rules in
+    b ∙ ap (option_map (λ e. e.value)) a ∙ value_first p c.args.inlet c.args.events.now
