@@ -8,7 +8,7 @@ ghost use Rattle.bounded.specs.Held.{held, insertion};
 use super::{Bounded, InsertError};
 
 impl<T: Copy, const N: usize> Bounded<T, N> {
-    // Whether there is a record at i, which x then replaces.
+    // Whether there is a record at i, which x then replaces. A bool, as there is one reason to say no.
     pub fn set(&mut self, i: usize, x: T) -> bool
         ensures answer { result ≡ nat_lt i (length (held self.old)) }
         ensures after { held self.new ≡ (if result then slice_set (held self.old) i x else held self.old) }

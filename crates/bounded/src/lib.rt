@@ -32,7 +32,7 @@ pub struct Bounded<T: Copy, const N: usize> {
     ghost whole: { length items ≡ N },
 }
 
-// By hand, tried as a derive: `Clone` is not derived where a struct has a ghost field.
+// By hand, tried as `derive(Clone, Copy)`: that is refused for a struct with a type parameter and a ghost field.
 impl<T: Copy, const N: usize> Clone for Bounded<T, N> {
     ghost is_clone = { λ x y. y ≡ x };
 

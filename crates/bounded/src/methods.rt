@@ -37,8 +37,7 @@ impl<T: Copy, const N: usize> Bounded<T, N> {
     pub fn as_slice(&self) -> &[T]
         ensures { result.now ≡ held self.now }
     {
-        let items = &self.items[..];
-        &items[0..self.len]
+        &self.items[..self.len]
     }
 
     pub fn get(&self, i: usize) -> Option<T>

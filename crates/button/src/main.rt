@@ -1,14 +1,16 @@
 // The download button: reports on one or two project images, and says whether there is anything to download.
 #![tactic(auto)]
 
-use inputs::{arguments, read_or_empty, read_project};
+use fault::Fault;
+use inputs::{arguments, print_refusal, read_or_empty, read_project};
 use line::parts::{Actor, Sink, Source};
 use project::project::Project;
 
 fn main(rt: HostRuntime) -> anyhow::Result<()> {
     match arguments(&rt)?.as_slice() {
         [only] => {
-            examine(&rt, only)?;
+            // A refusal is printed by then.
+            let _ = examine(&rt, only)?;
             Ok(())
         }
         [old, new] => compare(&rt, old, new),
@@ -25,15 +27,20 @@ fn explain(rt: &HostRuntime) -> anyhow::Result<()> {
 }
 
 // Reports on an image; gives its project and its length where it is accepted.
-fn examine(rt: &HostRuntime, name: &str) -> anyhow::Result<Option<(Project, usize)>> {
+fn examine(rt: &HostRuntime, name: &str) -> anyhow::Result<Result<(Project, usize), Fault>> {
     let image = read_or_empty(rt, name)?;
-    let Some(project) = read_project(rt, name, &image)? else {
-        return Ok(None);
-    };
     let size = image.len();
-    println!(rt; "{name}: accepted, {size} bytes")?;
-    report(rt, &project)?;
-    Ok(Some((project, size)))
+    match read_project(&image) {
+        Ok(project) => {
+            println!(rt; "{name}: accepted, {size} bytes")?;
+            report(rt, &project)?;
+            Ok(Ok((project, size)))
+        }
+        Err(fault) => {
+            print_refusal(rt, name, fault)?;
+            Ok(Err(fault))
+        }
+    }
 }
 
 fn report(rt: &HostRuntime, project: &Project) -> anyhow::Result<()> {
@@ -67,7 +74,7 @@ fn report_actor(
 ) -> anyhow::Result<()> {
     println!(rt;
         "  actor {number}: {}, parameter {}, delay {}, wait {}, deadline {}",
-        actor.kind.name(),
+        actor.kind,
         actor.parameter,
         project.delay(number, 0),
         project.wait(number).unwrap_or(0),
@@ -87,10 +94,10 @@ fn compare(rt: &HostRuntime, old: &str, new: &str) -> anyhow::Result<()> {
     let before = examine(rt, old)?;
     let after = examine(rt, new)?;
     match (&before, &after) {
-        (Some((before, _)), Some((after, _))) if before.same_line(after) => {
+        (Ok((before, _)), Ok((after, _))) if before.same_line(after) => {
             println!(rt; "unchanged: nothing to download")?;
         }
-        (Some(_), Some((_, size))) => println!(rt; "changed: {size} bytes to download")?,
+        (Ok(_), Ok((_, size))) => println!(rt; "changed: {size} bytes to download")?,
         _ => println!(rt; "refused: nothing downloaded")?,
     }
     Ok(())

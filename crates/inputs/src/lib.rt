@@ -1,9 +1,10 @@
 // What the programs are given: arguments, files and images.
 #![tactic(auto)]
 
-ghost use Rattle.std.specs.Prelude.{IfOk};
-ghost use Rattle.inputs.specs.Images.{Reads};
+ghost use Rattle.std.specs.Prelude.{MatchResult};
+ghost use Rattle.project.specs.Project.{Accepted, Refused};
 
+use fault::Fault;
 use project::project::Project;
 use std::{env, fs};
 
@@ -23,14 +24,17 @@ pub fn read_or_empty(rt: &HostRuntime, name: &str) -> anyhow::Result<Vec<u8>> {
     }
 }
 
-// The project of the image that the named file holds; a refusal is printed.
-pub fn read_project(rt: &HostRuntime, name: &str, image: &[u8]) -> anyhow::Result<Option<Project>>
-    ensures { IfOk result (Reads image.now) }
+// The project of an image, or why it is refused.
+pub fn read_project(image: &[u8]) -> Result<Project, Fault>
+    ensures { MatchResult result (Accepted image.now) (Refused image.now) }
 {
     let mut project = Project::fresh();
-    if let Err(fault) = project.read(image) {
-        println!(rt; "{name}: {fault}: {}", fault.words())?;
-        return Ok(None);
-    }
-    Ok(Some(project))
+    project.read(image)?;
+    Ok(project)
+}
+
+// Prints why the image of a name is refused.
+pub fn print_refusal(rt: &HostRuntime, name: &str, fault: Fault) -> anyhow::Result<()> {
+    println!(rt; "{name}: {fault}: {}", fault.words())?;
+    Ok(())
 }

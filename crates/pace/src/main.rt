@@ -1,7 +1,7 @@
 // Works a line as often as asked, for counting instructions: days of one event each, or picks on a line full of events.
 #![tactic(auto)]
 
-use inputs::arguments;
+use inputs::{arguments, read_project};
 use project::project::Project;
 use runs::records::Firing;
 use runtime::runtime::OpenRuntime;
@@ -29,18 +29,17 @@ fn main(rt: HostRuntime) -> anyhow::Result<()> {
 }
 
 fn work(rt: &HostRuntime, name: &str, days: u32, picks: u32) -> anyhow::Result<()> {
-    let image = fs::read(rt, name)?;
-    let mut project = Project::fresh();
-    if let Err(fault) = project.read(image.as_slice()) {
-        println!(rt; "{name}: {fault}")?;
-        return Ok(());
-    }
+    let project = match read_project(&fs::read(rt, name)?) {
+        Ok(project) => project,
+        Err(fault) => {
+            println!(rt; "{name}: {fault}")?;
+            return Ok(());
+        }
+    };
     let mut line = OpenRuntime::open(project, Supplied::of(&project));
-    let mut handed = 0u32;
-    for day in 0..days {
-        let went = follow(&mut line, DAY.saturating_mul(u64::from(day)));
-        handed = handed.saturating_add(u32::from(went));
-    }
+    let handed = (0..days)
+        .filter(|day| follow(&mut line, DAY.saturating_mul(u64::from(*day))))
+        .count();
     let waiting = fill(&mut line, &project, DAY.saturating_mul(u64::from(days)));
     let named = (0..picks).filter(|_| line.pick().is_ok()).count();
     let _ = line.end();

@@ -28,7 +28,7 @@ fn precedes<T: Ranked>(x: &T, y: &T) -> bool
     x.rank() < y.rank()
 }
 
-// The first record that x precedes.
+// The first record that x precedes. Sought from the front: no type says that the records are in order.
 fn first_over<T: Ranked>(list: &[T], x: &T) -> Option<usize>
     ensures { result ≡ position (λ y. nat_lt (T.Ranked.order x.now) (T.Ranked.order y)) list.now }
 {

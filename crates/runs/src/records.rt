@@ -2,7 +2,7 @@
 use fault::Fault;
 
 // An event that waits at an inlet of an actor.
-#[derive(Clone, Copy, PartialEq, Eq, Debug)]
+#[derive(Clone, Copy, PartialEq, Eq, Debug, Default)]
 pub struct Event {
     pub actor: u8,
     pub inlet: u8,
@@ -11,7 +11,7 @@ pub struct Event {
 }
 
 // A firing that has started and has not finished: a place of the stack.
-#[derive(Clone, Copy, PartialEq, Eq, Debug)]
+#[derive(Clone, Copy, PartialEq, Eq, Debug, Default)]
 pub struct Running {
     pub actor: u8,
     pub timestamp: u64,
@@ -28,7 +28,7 @@ pub struct Firing {
 }
 
 // A value on its way to an actuator.
-#[derive(Clone, Copy, PartialEq, Eq, Debug)]
+#[derive(Clone, Copy, PartialEq, Eq, Debug, Default)]
 pub struct Output {
     pub actuator: u8,
     pub timestamp: u64,

@@ -44,7 +44,8 @@ impl fmt::Display for Addition {
     }
 }
 
-// The part to whose record the step adds, and what it adds.
+// The part to whose record the step adds, and what it adds. Call and answer are matched one in the other: as a pair,
+// tried, the borrow checker does not cover reading a field of what an arm binds.
 fn added(step: &Step) -> Option<(Part, Addition)> {
     match step.answer {
         Answer::Done => match step.call {

@@ -8,21 +8,23 @@ use super::answers::Answered;
 use super::entries::{Entry, calls, entries};
 use super::records::print_records;
 use super::texts::Text;
-use inputs::{read_or_empty, read_project};
+use fault::Fault;
+use inputs::{print_refusal, read_or_empty, read_project};
 use project::project::Project;
 use runs::records::Step;
 use simulation::{Performed, Run, compare, perform};
 use supplied::bank::Supplied;
 
-// The project of an image; a refusal is printed.
-fn load_project(rt: &HostRuntime, name: &str) -> anyhow::Result<Option<Project>> {
-    read_project(rt, name, &read_or_empty(rt, name)?)
+// The project of an image that lies in a file.
+fn load_project(rt: &HostRuntime, name: &str) -> anyhow::Result<Result<Project, Fault>> {
+    Ok(read_project(&read_or_empty(rt, name)?))
 }
 
 // Runs a script and prints every answer, every record and how the run ended.
 pub fn run_script(rt: &HostRuntime, image: &str, script: &str) -> anyhow::Result<()> {
-    let Some(project) = load_project(rt, image)? else {
-        return Ok(());
+    let project = match load_project(rt, image)? {
+        Ok(project) => project,
+        Err(fault) => return print_refusal(rt, image, fault),
     };
     let text = read_or_empty(rt, script)?;
     let entries = entries(rt.alloc(), &text)?;
@@ -39,8 +41,9 @@ pub fn compare_scripts(
     first: &str,
     second: &str,
 ) -> anyhow::Result<()> {
-    let Some(project) = load_project(rt, image)? else {
-        return Ok(());
+    let project = match load_project(rt, image)? {
+        Ok(project) => project,
+        Err(fault) => return print_refusal(rt, image, fault),
     };
     let first = run_quietly(rt, project, first)?;
     let second = run_quietly(rt, project, second)?;

@@ -25,10 +25,9 @@ fn first_state(actors: &[Actor], number: usize) -> State
     ensures row { row_of result ≡ starts (slice_index_or actors.now number bystander).kind }
     ensures rule { rule_of result ≡ reacts (slice_index_or actors.now number bystander).kind (slice_index_or actors.now number bystander).parameter }
 {
-    match actors.get(number) {
-        Some(actor) => State::new(*actor),
-        None => State::Other,
-    }
+    actors
+        .get(number)
+        .map_or(State::Other, |actor| State::new(*actor))
 }
 
 impl Supplied {

@@ -18,10 +18,7 @@ impl Scale {
     pub fn react(self, inlets: [Option<i32>; 4]) -> [Option<i32>; 4]
         ensures { leaves [] result ≡ scales self.parameter [] (inlet 0 inlets) }
     {
-        match inlets[0] {
-            Some(value) => [Some(self.apply(value)); 4],
-            None => [None; 4],
-        }
+        [inlets[0].map(|value| self.apply(value)); 4]
     }
 
     fn apply(self, value: i32) -> i32
