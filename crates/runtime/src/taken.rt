@@ -3,7 +3,7 @@ ghost use Rattle.queue.specs.Held.{held};
 ghost use Rattle.runs.specs.Lists.{keep};
 ghost use Rattle.runs.specs.State.{taken, value_for, four};
 
-use super::room::Room;
+use super::room::EventRoom;
 use runs::records::Event;
 
 // The events that a start takes: those of its actor at its timestamp.
@@ -65,7 +65,7 @@ impl Taken {
     }
 
     // Takes the events out of those that wait: the values for all inlets.
-    pub(crate) fn take(&self, events: &mut Room<Event, 128>) -> [Option<i32>; 4]
+    pub(crate) fn take(&self, events: &mut EventRoom) -> [Option<i32>; 4]
         ensures inlets { result ≡ four (λ i. value_for i (keep (taken self.now.actor self.now.timestamp) (held events.old.waiting))) }
         ensures waiting { held events.new.waiting ≡ keep (λ e. not (taken self.now.actor self.now.timestamp e)) (held events.old.waiting) }
         ensures aside { events.new.aside ≡ events.old.aside }
