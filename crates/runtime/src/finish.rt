@@ -15,10 +15,7 @@ use runs::records::{Event, Firing, Output, Running};
 fn wired(sink: Option<Sink>, value: Option<i32>) -> Option<i32>
     ensures { result ≡ wired sink value }
 {
-    match sink {
-        Some(_) => value,
-        None => None,
-    }
+    sink.and(value)
 }
 
 // The outlets of a finished firing: those that no channel leaves are absent.

@@ -11,10 +11,9 @@ fn wired_delay(project: &Project, actor: u8, outlet: u8) -> u64
     ensures short { result < 4294967296 }
     ensures value { result ≡ wired_delay (wire (plan project.now) actor outlet) (delay (plan project.now) actor outlet) }
 {
-    match project.wire(actor, outlet) {
-        Some(_) => u64::from(project.delay(usize::from(actor), usize::from(outlet))),
-        None => 0,
-    }
+    project.wire(actor, outlet).map_or(0, |_| {
+        u64::from(project.delay(usize::from(actor), usize::from(outlet)))
+    })
 }
 
 // The longest delay of an actor's wired outlets.

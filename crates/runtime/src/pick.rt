@@ -48,9 +48,6 @@ impl Core {
         for actor in 0..count {
             least = lesser(least, self.key(actor));
         }
-        match least {
-            Some(key) => Ok(key.2),
-            None => Err(NOTHING),
-        }
+        least.map(|key| key.2).ok_or(NOTHING)
     }
 }
