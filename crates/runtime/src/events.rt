@@ -24,6 +24,7 @@ pub(crate) fn first_at(events: &[Event], actor: u64) -> Option<u64>
     ensures { result ≡ least event_time (keep (at_actor actor) events.now) }
 {
     let mut first = None;
+    // A loop over the events, as the project asks of every search among them.
     for event in events {
         if u64::from(event.actor) == actor {
             first = Some(lower(event.timestamp, first));
@@ -40,7 +41,7 @@ fn within(distance: Option<u64>, from: u64, to: u64) -> bool
 }
 
 // Whether what an event leads to could still come to an actor by a timestamp.
-// It asks values: as a method of the candidate it made a pick on the largest line a quarter slower.
+// The parts are passed one by one: as a method of the candidate it made a pick on the largest line a quarter slower.
 fn could_reach(project: &Project, event: &Event, actor: u8, timestamp: u64) -> bool
     requires source { event.now.actor < length (plan project.now).actors }
     requires target { actor < length (plan project.now).actors }
@@ -59,6 +60,7 @@ impl Candidate<'_> {
         let project = &self.core.project;
         let mut lowest = None;
         let events = self.core.events.waiting();
+        // A loop over the events, as the project asks of every search among them.
         for event in events {
             if could_reach(project, event, actor, timestamp) {
                 lowest = Some(lower(u64::from(event.actor), lowest));

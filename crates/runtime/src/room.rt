@@ -64,6 +64,7 @@ impl<T: Ranked, const N: usize> Room<T, N> {
         ensures aside { self.new.aside ≡ self.old.aside }
     {
         if let Some(item) = item {
+            // There is room.
             let _ = self.waiting.insert(item);
         }
     }

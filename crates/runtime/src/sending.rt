@@ -50,6 +50,7 @@ pub(crate) fn send_all(
     ensures outputs { held outputs.new.waiting ≡ put_all output_time (outputs_sent (plan project.now) firing.now) (held outputs.old.waiting) }
     ensures outputs_aside { outputs.new.aside ≡ outputs.old.aside }
 {
+    // By number: an outlet's channel and delay are asked by it.
     for outlet in 0..4 {
         send_from(project, firing, outlet, events, outputs);
     }

@@ -19,6 +19,7 @@ use runs::records::Running;
 pub struct Core {
     pub(crate) project: Project,
     pub(crate) clock: u64,
+    // A flag: as a parameter of `Core` the phase would stand at every call: no plainer.
     pub(crate) taking: bool,
     pub(crate) sensors: [SensorRow; 16],
     pub(crate) events: EventRoom,

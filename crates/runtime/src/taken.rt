@@ -5,6 +5,7 @@ ghost use Rattle.runs.specs.State.{taken, value_for, four};
 
 use super::room::EventRoom;
 use runs::records::Event;
+use std::array;
 
 // The events that a start takes: those of its actor at its timestamp.
 #[derive(Clone, Copy)]
@@ -56,12 +57,7 @@ impl Taken {
     fn inlets(&self, events: &[Event]) -> [Option<i32>; 4]
         ensures { result ≡ four (λ i. value_for i (keep (taken self.now.actor self.now.timestamp) events.now)) }
     {
-        [
-            self.value_for(events, 0),
-            self.value_for(events, 1),
-            self.value_for(events, 2),
-            self.value_for(events, 3),
-        ]
+        array::from_fn(|inlet| self.value_for(events, inlet as u8))
     }
 
     // Takes the events out of those that wait: the values for all inlets.
