@@ -2,15 +2,16 @@
 use Rattle.std.proofs.Common.{◌≡◌, ℕ, zero, suc, ◌<◌, Bool, true, false, cond, length, Some, None, Option, Result, Ok, Err, sym, refl, ap, ◌∙◌, subst, inl, inr, arith}
 use Rattle.std.proofs.lemmas.Bool.{cases_eq, cases_lt, ltb-true, not-false}
 use Rattle.std.proofs.lemmas.Bool.Decides.{nat_tests}
+use Rattle.std.specs.Option.{ok_or, option_map}
 use Rattle.std.specs.Result.{result_ok}
 use Rattle.fault.specs.declared.Fault.{Fault}
 use Rattle.line.specs.Times.{Line}
-use Rattle.runs.specs.Calls.{answer, start_checks, start_verdict, time_at, Startable, First, Picked}
+use Rattle.runs.specs.Calls.{answer, nothing, start_checks, start_verdict, time_at, Startable, First, Picked, PickAnswers}
 use Rattle.runs.specs.State.{State, deadline_at}
 use Rattle.runs.proofs.Accepted.{none-some, passes, unmet}
 use Rattle.runs.specs.declared.records.Started.{Started}
 use Rattle.runs.specs.declared.records.Answer.TheVariants.{Fired}
-use Rattle.runtime.specs.Answers.{fired}
+use Rattle.runtime.specs.Answers.{fired, named}
 use Rattle.runtime.proofs.Checks.{refusal}
 use Rattle.runtime.specs.Keys.{Key, before, lesser, unless, key_of}
 
@@ -117,10 +118,10 @@ module _ (l : Line) (s : State) where
   has_key : (a : ℕ) → Startable l s a → key_of l s a ≡ Some (deadline_at l a (time_at s a), time_at s a, a)
   has_key a e = ap (λ v. unless v (deadline_at l a (time_at s a), time_at s a, a)) e
 
-  pub pick-none : LeastKey (key_of l s) (length l.plan.actors) None → (a : ℕ) → Startable l s a → ⊥
+  pick-none : LeastKey (key_of l s) (length l.plan.actors) None → (a : ℕ) → Startable l s a → ⊥
   pick-none h a e = none-some _ (sym (h a (inside a e)) ∙ has_key a e)
 
-  pub pick_some : (x : Key) → LeastKey (key_of l s) (length l.plan.actors) (Some x) → Picked l s x.2
+  pick_some : (x : Key) → LeastKey (key_of l s) (length l.plan.actors) (Some x) → Picked l s x.2
   pick_some x h =
       let a : ℕ = h.0.0 in
       let w = key-some (start_verdict l s a) (deadline_at l a (time_at s a), time_at s a, a) x h.0.2 in
@@ -130,3 +131,9 @@ module _ (l : Line) (s : State) where
             (deadline_at l b (time_at s b), time_at s b, b)
             (ap (before (deadline_at l b (time_at s b), time_at s b, b)) w.1 ∙ h.1 b _ (inside b e) (has_key b e));
       })
+
+  -- the actor of the least key, or that there is nothing to do
+  pub picks : (o : Option Key) → LeastKey (key_of l s) (length l.plan.actors) o →
+      PickAnswers l s (named (ok_or (option_map (λ (x : Key). x.2) o) nothing))
+  picks None h = (refl, pick-none h)
+  picks (Some x) h = pick_some x h

@@ -16,13 +16,13 @@ impl Core {
     fn none_due_before(&self, clock: u64) -> Result<(), Fault>
         ensures { result_err result ≡ verdict (refuse Due (due_before clock (held self.now.outputs.waiting)) ∷ []) }
     {
-        let Some(first) = self.outputs.first() else {
-            return Ok(());
-        };
-        if first.timestamp < clock {
-            return Err(Fault::Run(RunCause::Due, first.timestamp));
+        match self.outputs.first() {
+            Some(first) if first.timestamp < clock => Err(Fault::Run(
+                RunCause::Due,
+                first.timestamp,
+            )),
+            _ => Ok(()),
         }
-        Ok(())
     }
 
     // Sets the clock, which neither goes back nor passes an output that waits.

@@ -1,10 +1,10 @@
-ghost use Rattle.std.specs.Prelude.{◌≡◌, ◌<◌, ◌≤◌, [], ◌∷◌, length, drop, nat_le, take};
+ghost use Rattle.std.specs.Prelude.{◌≡◌, ◌<◌, ◌≤◌, [], ◌∷◌, length, nat_le};
 ghost use Rattle.std.specs.Result.{result_err};
 ghost use Rattle.fault.specs.declared.RunCause.TheVariants.{NotSooner};
 ghost use Rattle.project.specs.Project.{line, plan};
 ghost use Rattle.runs.specs.Calls.{horizon, refuse, verdict, when};
 ghost use Rattle.runs.specs.State.{deadline_at};
-ghost use Rattle.runtime.specs.Candidates.{checks};
+ghost use Rattle.runtime.specs.Candidates.{sooner_check};
 
 use super::candidate::Candidate;
 use super::state::Core;
@@ -41,7 +41,7 @@ impl Candidate<'_> {
 
     // The deadline is below that of the top of the stack.
     pub(crate) fn sooner_than_top(&self) -> Result<(), Fault>
-        ensures { result_err result ≡ verdict (take 1 (drop 4 (checks self.now))) }
+        ensures { result_err result ≡ verdict (sooner_check self.now) }
     {
         let Some(top) = self.core.stack.last() else {
             return Ok(());

@@ -25,9 +25,7 @@ impl Core {
     pub(crate) fn deliver(&mut self) -> Result<Delivered, Fault>
         ensures { Moves self.old Deliver (handed result) self.new }
     {
-        let Some(first) = self.outputs.first() else {
-            return Err(NOTHING);
-        };
+        let first = self.outputs.first().ok_or(NOTHING)?;
         if self.clock < first.timestamp {
             return Err(NOTHING);
         }

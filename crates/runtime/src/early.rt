@@ -1,8 +1,8 @@
-ghost use Rattle.std.specs.Prelude.{◌≡◌, ◌≤◌, [], ◌∷◌, pos, ◌+ℤ◌, drop, int_le, take};
+ghost use Rattle.std.specs.Prelude.{◌≡◌, ◌≤◌, [], ◌∷◌, pos, ◌+ℤ◌, int_le};
 ghost use Rattle.std.specs.Result.{result_err};
 ghost use Rattle.fault.specs.declared.RunCause.TheVariants.{Early};
 ghost use Rattle.runs.specs.Calls.{horizon, natural, refuse, verdict, when};
-ghost use Rattle.runtime.specs.Candidates.{checks};
+ghost use Rattle.runtime.specs.Candidates.{early_check};
 
 use super::candidate::Candidate;
 use fault::{Fault, RunCause};
@@ -22,7 +22,7 @@ fn passed(clock: u64, timestamp: u64, wait: i64) -> Result<(), Fault>
 impl Candidate<'_> {
     // No sensor can still send the actor an event up to the timestamp.
     pub(crate) fn not_early(&self) -> Result<(), Fault>
-        ensures { result_err result ≡ verdict (take 1 (drop 2 (checks self.now))) }
+        ensures { result_err result ≡ verdict (early_check self.now) }
     {
         if !self.core.taking {
             return Ok(());

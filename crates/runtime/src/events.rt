@@ -1,10 +1,10 @@
-ghost use Rattle.std.specs.Prelude.{◌≡◌, ◌<◌, length, drop, take};
+ghost use Rattle.std.specs.Prelude.{◌≡◌, ◌<◌, length};
 ghost use Rattle.std.specs.Result.{result_err};
 ghost use Rattle.project.specs.Project.{line, plan};
 ghost use Rattle.runs.specs.Calls.{within, could_reach, verdict};
 ghost use Rattle.runs.specs.Lists.{keep, least, lower};
 ghost use Rattle.runs.specs.State.{at_actor, event_time};
-ghost use Rattle.runtime.specs.Candidates.{checks};
+ghost use Rattle.runtime.specs.Candidates.{behind_check};
 
 use super::candidate::Candidate;
 use super::taken::Taken;
@@ -24,6 +24,7 @@ pub(crate) fn first_at(events: &[Event], actor: u64) -> Option<u64>
     ensures { result ≡ least event_time (keep (at_actor actor) events.now) }
 {
     let mut first = None;
+    // A loop over the events, as the project asks of every search among them.
     for event in events {
         if u64::from(event.actor) == actor {
             first = Some(lower(event.timestamp, first));
@@ -36,14 +37,11 @@ pub(crate) fn first_at(events: &[Event], actor: u64) -> Option<u64>
 fn within(distance: Option<u64>, from: u64, to: u64) -> bool
     ensures { result ≡ within distance from to }
 {
-    match distance {
-        Some(distance) => from <= to && distance <= to - from,
-        None => false,
-    }
+    distance.is_some_and(|distance| from <= to && distance <= to - from)
 }
 
 // Whether what an event leads to could still come to an actor by a timestamp.
-// It asks values: as a method of the candidate it made a pick on the largest line a quarter slower.
+// The parts are passed one by one: as a method of the candidate it made a pick on the largest line a quarter slower.
 fn could_reach(project: &Project, event: &Event, actor: u8, timestamp: u64) -> bool
     requires source { event.now.actor < length (plan project.now).actors }
     requires target { actor < length (plan project.now).actors }
@@ -56,12 +54,13 @@ fn could_reach(project: &Project, event: &Event, actor: u8, timestamp: u64) -> b
 impl Candidate<'_> {
     // No event waits that could still come to the actor by the timestamp. The lowest actor of such an event refuses.
     pub(crate) fn not_behind(&self) -> Result<(), Fault>
-        ensures { result_err result ≡ verdict (take 1 (drop 3 (checks self.now))) }
+        ensures { result_err result ≡ verdict (behind_check self.now) }
     {
         let Taken { actor, timestamp } = self.firing;
         let project = &self.core.project;
         let mut lowest = None;
         let events = self.core.events.waiting();
+        // A loop over the events, as the project asks of every search among them.
         for event in events {
             if could_reach(project, event, actor, timestamp) {
                 lowest = Some(lower(u64::from(event.actor), lowest));

@@ -10,27 +10,20 @@ use super::state::Core;
 use line::parts::Sink;
 use project::project::Project;
 use runs::records::{Event, Firing, Output, Running};
+use std::array;
 
 // A value, absent where no channel leaves.
 fn wired(sink: Option<Sink>, value: Option<i32>) -> Option<i32>
     ensures { result ≡ wired sink value }
 {
-    match sink {
-        Some(_) => value,
-        None => None,
-    }
+    sink.and(value)
 }
 
 // The outlets of a finished firing: those that no channel leaves are absent.
 fn shown(project: &Project, actor: u8, outlets: [Option<i32>; 4]) -> [Option<i32>; 4]
     ensures { result ≡ shown (plan project.now) actor outlets }
 {
-    [
-        wired(project.wire(actor, 0), outlets[0]),
-        wired(project.wire(actor, 1), outlets[1]),
-        wired(project.wire(actor, 2), outlets[2]),
-        wired(project.wire(actor, 3), outlets[3]),
-    ]
+    array::from_fn(|outlet| wired(project.wire(actor, outlet as u8), outlets[outlet]))
 }
 
 impl Core {

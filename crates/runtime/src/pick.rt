@@ -2,7 +2,7 @@ ghost use Rattle.std.specs.Prelude.{◌≡◌};
 ghost use Rattle.project.specs.Project.{line};
 ghost use Rattle.runs.specs.declared.records.Call.TheVariants.{Pick};
 ghost use Rattle.runtime.specs.Answers.{named};
-ghost use Rattle.runtime.specs.Keys.{before, key_of, lesser};
+ghost use Rattle.runtime.specs.Keys.{key_of, lesser};
 ghost use Rattle.runtime.specs.Meant.{no_rows};
 ghost use Rattle.runtime.specs.Model.{Moves, state_over};
 
@@ -13,18 +13,12 @@ use fault::Fault;
 // The order of picks: the deadline of the firing that would start, its timestamp, and the actor's number.
 type Key = (u64, u64, u8);
 
-fn before(x: Key, y: Key) -> bool
-    ensures { result ≡ before x y }
-{
-    x < y
-}
-
-// The lesser of two keys that may be missing.
+// The lesser of two keys that may be missing. Tuples compare part by part.
 fn lesser(x: Option<Key>, y: Option<Key>) -> Option<Key>
     ensures { result ≡ lesser x y }
 {
     match (x, y) {
-        (Some(a), Some(b)) => Some(if before(b, a) { b } else { a }),
+        (Some(a), Some(b)) => Some(a.min(b)),
         (x, y) => x.or(y),
     }
 }
@@ -44,13 +38,10 @@ impl Core {
     {
         let count = self.project.actors().len() as u8;
         let mut least = None;
-        // A loop: with `filter_map` and `min` the proof did not close, since the search came to its limits.
+        // A loop: with `filter_map` and `min` the search came to its limits, since each key is a whole start.
         for actor in 0..count {
             least = lesser(least, self.key(actor));
         }
-        match least {
-            Some(key) => Ok(key.2),
-            None => Err(NOTHING),
-        }
+        least.map(|key| key.2).ok_or(NOTHING)
     }
 }

@@ -7,6 +7,12 @@ ghost use Rattle.runs.specs.Lists.{put_all};
 ghost use Rattle.runtime.specs.Meant.{listed};
 
 use queue::{Queue, Ranked};
+use runs::records::{Event, Output};
+
+// Room for events, and for outputs.
+pub type EventRoom = Room<Event, 128>;
+
+pub type OutputRoom = Room<Output, 64>;
 
 // Room for N records: for those that wait, and for those that the stacked firings will send, whose places are set aside.
 #[derive(Drop)]
@@ -58,6 +64,7 @@ impl<T: Ranked, const N: usize> Room<T, N> {
         ensures aside { self.new.aside ≡ self.old.aside }
     {
         if let Some(item) = item {
+            // There is room.
             let _ = self.waiting.insert(item);
         }
     }

@@ -5,7 +5,7 @@ ghost use Rattle.runs.specs.Calls.{horizon};
 ghost use Rattle.runs.specs.Lists.{put_all};
 ghost use Rattle.runs.specs.State.{event_from, event_time, events_sent, output_from, output_time, outputs_sent};
 
-use super::room::Room;
+use super::room::{EventRoom, OutputRoom};
 use super::sent::Sent;
 use project::project::Project;
 use runs::records::{Event, Firing, Output};
@@ -15,8 +15,8 @@ fn send_from(
     project: &Project,
     firing: &Firing,
     outlet: u8,
-    events: &mut Room<Event, 128>,
-    outputs: &mut Room<Output, 64>,
+    events: &mut EventRoom,
+    outputs: &mut OutputRoom,
 )
     requires port { outlet < 4 }
     requires in_time { firing.now.timestamp ≤ horizon }
@@ -39,8 +39,8 @@ fn send_from(
 pub(crate) fn send_all(
     project: &Project,
     firing: &Firing,
-    events: &mut Room<Event, 128>,
-    outputs: &mut Room<Output, 64>,
+    events: &mut EventRoom,
+    outputs: &mut OutputRoom,
 )
     requires in_time { firing.now.timestamp ≤ horizon }
     requires event_room { length (held events.old.waiting) + length (events_sent (plan project.now) firing.now) + events.old.aside ≤ 128 }
@@ -50,6 +50,7 @@ pub(crate) fn send_all(
     ensures outputs { held outputs.new.waiting ≡ put_all output_time (outputs_sent (plan project.now) firing.now) (held outputs.old.waiting) }
     ensures outputs_aside { outputs.new.aside ≡ outputs.old.aside }
 {
+    // By number: an outlet's channel and delay are asked by it.
     for outlet in 0..4 {
         send_from(project, firing, outlet, events, outputs);
     }

@@ -22,6 +22,7 @@ impl Core {
         let events = leading::<Event>(&self.project, firing.actor);
         let outputs = leading::<Output>(&self.project, firing.actor);
         let inlets = firing.take(&mut self.events);
+        // There is room.
         let _ = self.stack.push(Running {
             actor: firing.actor,
             timestamp: firing.timestamp,

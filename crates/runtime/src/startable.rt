@@ -1,9 +1,9 @@
-ghost use Rattle.std.specs.Prelude.{◌≡◌, drop, take};
+ghost use Rattle.std.specs.Prelude.{◌≡◌};
 ghost use Rattle.std.specs.Result.{result_err};
 ghost use Rattle.project.specs.Project.{line};
 ghost use Rattle.runs.specs.Calls.{answer, start_answer, verdict};
 ghost use Rattle.runtime.specs.Answers.{fired};
-ghost use Rattle.runtime.specs.Candidates.{accepted, checks};
+ghost use Rattle.runtime.specs.Candidates.{accepted, bound_checks, firing_checks, order_checks};
 ghost use Rattle.runtime.specs.Meant.{no_rows};
 ghost use Rattle.runtime.specs.Model.{state_over};
 
@@ -19,7 +19,7 @@ use runs::records::Started;
 impl Candidate<'_> {
     // The firing keeps its order among events and firings.
     fn comes_in_order(&self) -> Result<(), Fault>
-        ensures { result_err result ≡ verdict (take 3 (drop 2 (checks self.now))) }
+        ensures { result_err result ≡ verdict (order_checks self.now) }
     {
         self.not_early()?;
         self.not_behind()?;
@@ -28,7 +28,7 @@ impl Candidate<'_> {
 
     // What the firing sends stays within the horizon, and finds room.
     fn sends_in_bounds(&self) -> Result<(), Fault>
-        ensures { result_err result ≡ verdict (drop 5 (checks self.now)) }
+        ensures { result_err result ≡ verdict (bound_checks self.now) }
     {
         if self.firing.timestamp + longest_delay(&self.core.project, self.firing.actor) > HORIZON {
             return Err(Fault::Run(RunCause::Horizon, HORIZON));
@@ -44,7 +44,7 @@ impl Candidate<'_> {
 
     // What a start of the firing answers.
     fn startable(&self) -> Result<Started, Fault>
-        ensures { fired result ≡ answer (verdict (drop 2 (checks self.now))) (accepted self.now) }
+        ensures { fired result ≡ answer (verdict (firing_checks self.now)) (accepted self.now) }
     {
         self.comes_in_order()?;
         self.sends_in_bounds()?;

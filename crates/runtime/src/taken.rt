@@ -3,8 +3,9 @@ ghost use Rattle.queue.specs.Held.{held};
 ghost use Rattle.runs.specs.Lists.{keep};
 ghost use Rattle.runs.specs.State.{taken, value_for, four};
 
-use super::room::Room;
+use super::room::EventRoom;
 use runs::records::Event;
+use std::array;
 
 // The events that a start takes: those of its actor at its timestamp.
 #[derive(Clone, Copy)]
@@ -56,16 +57,11 @@ impl Taken {
     fn inlets(&self, events: &[Event]) -> [Option<i32>; 4]
         ensures { result ≡ four (λ i. value_for i (keep (taken self.now.actor self.now.timestamp) events.now)) }
     {
-        [
-            self.value_for(events, 0),
-            self.value_for(events, 1),
-            self.value_for(events, 2),
-            self.value_for(events, 3),
-        ]
+        array::from_fn(|inlet| self.value_for(events, inlet as u8))
     }
 
     // Takes the events out of those that wait: the values for all inlets.
-    pub(crate) fn take(&self, events: &mut Room<Event, 128>) -> [Option<i32>; 4]
+    pub(crate) fn take(&self, events: &mut EventRoom) -> [Option<i32>; 4]
         ensures inlets { result ≡ four (λ i. value_for i (keep (taken self.now.actor self.now.timestamp) (held events.old.waiting))) }
         ensures waiting { held events.new.waiting ≡ keep (λ e. not (taken self.now.actor self.now.timestamp e)) (held events.old.waiting) }
         ensures aside { events.new.aside ≡ events.old.aside }

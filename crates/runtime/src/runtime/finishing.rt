@@ -25,9 +25,7 @@ impl<B: Bank> Inner<B> {
         ensures taking { self.new.core.taking ≡ self.old.core.taking }
         ensures refused { is_ok result ≡ false → firing.new ≡ firing.old }
     {
-        let Some(top) = self.core.top() else {
-            return Err(NOTHING);
-        };
+        let top = self.core.top().ok_or(NOTHING)?;
         let outlets = fire(&mut self.bank, &top);
         *firing = self.core.unstack(top, outlets);
         Ok(())
