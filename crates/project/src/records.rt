@@ -6,6 +6,7 @@ ghost use Rattle.project.specs.RecordsLemmas.{begins-prop, ends-prop};
 ghost use Rattle.std.proofs.Props.{props};
 
 use image::draft::Draft;
+use super::tables::Table;
 use paths::Span;
 
 // A draft whose fields are in range.
@@ -19,6 +20,6 @@ pub struct Records<'a> {
 #[derive(Drop)]
 pub struct Distances<'a> {
     pub draft: &'a Draft,
-    pub table: [Span; 1089],
+    pub table: Table<Span>,
     ghost small: { Small table },
 }

@@ -29,6 +29,7 @@ fn fresh_draft() -> Draft
         sink: Sink::Actuator(0),
     };
     let mut sensors = Bounded::new(0);
+    // There is room in each.
     let _ = sensors.push(0);
     let mut actors = Bounded::new(pass);
     let _ = actors.push(pass);
