@@ -53,7 +53,7 @@ fn lay(table: &mut Table<Span>, draft: &Draft, channel: Channel)
 
 // Where there is an edge.
 fn links(edges: &Table<Span>) -> Table<bool>
-    ensures { (k : ℕ) → k < 1089 → slice_index_or result k false ≡ is_some (length_of (slice_index_or edges.now k no_span)) }
+    ensures { (k : ℕ) → k < CELLS → slice_index_or result k false ≡ is_some (length_of (slice_index_or edges.now k no_span)) }
 {
     edges.map(|span| span.length().is_some())
 }
