@@ -1,8 +1,8 @@
 ghost use Rattle.line.specs.Times.{Sound};
 ghost use Rattle.project.specs.Lines.{line_of};
 
-use image::draft::Draft;
 use crate::tables::Table;
+use image::draft::Draft;
 use paths::Span;
 
 mod fresh;

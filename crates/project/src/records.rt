@@ -5,8 +5,8 @@ ghost use Rattle.project.specs.Tables.{Small};
 ghost use Rattle.project.specs.RecordsLemmas.{begins-prop, ends-prop};
 ghost use Rattle.std.proofs.Props.{props};
 
-use image::draft::Draft;
 use super::tables::Table;
+use image::draft::Draft;
 use paths::Span;
 
 // A draft whose fields are in range.

@@ -49,9 +49,6 @@ impl Project {
     pub fn fresh() -> Project
         ensures { plan result ≡ fresh_plan }
     {
-        match Project::of(&fresh_draft()) {
-            Ok(project) => project,
-            Err(_) => unreachable(),
-        }
+        Project::of(&fresh_draft()).unwrap()
     }
 }
