@@ -16,6 +16,7 @@ fn actor_of(number: u8, parameter: i32, delay: u32) -> Result<Actor, FieldError>
     ensures { ActorOf number parameter delay result }
 {
     let kind = Kind::try_from(number).map_err(|_| FieldError { offset: 0 })?;
+    // By number: record checks are ranges.
     match (number, parameter, delay) {
         (0..=3, p, _) if p != 0 => Err(FieldError { offset: 1 }),
         (_, _, d) if d > LONGEST => Err(FieldError { offset: 5 }),

@@ -11,7 +11,7 @@ pub const MOST_ACTUATORS: u8 = 16;
 pub const MOST_CHANNELS: usize = 96;
 
 // Sensors by their lateness; actors and channels, each numbered from 0.
-#[derive(Clone, Copy)]
+#[derive(Clone, Copy, PartialEq, Eq)]
 pub struct Draft {
     pub sensors: Bounded<u32, MOST_SENSORS>,
     pub actors: Bounded<Actor, MOST_ACTORS>,

@@ -33,7 +33,7 @@ fn first_difference(bytes: &[u8]) -> Option<usize>
         .position(|(byte, mark)| byte != mark)
 }
 
-// (A place goes into a refusal by `as u64`: a usize has no `From` into it.)
+// A place goes into a refusal by a cast: u64 has no `From<usize>`.
 pub(crate) fn check_head(bytes: &[u8]) -> Result<(), Fault>
     ensures checked { Checked (λ k. Fault.Bytes Head k) (Unmarked bytes.now) result }
     ensures long { OnOk result (9 ≤ length bytes.now) }

@@ -69,6 +69,7 @@ impl<'a> Image<'a> {
         let parts = self.bytes[at..].chunks_exact(R::WIDTH);
         for (i, part) in parts.take(usize::from(many)).enumerate() {
             let row = self.row(part, at + i * R::WIDTH)?;
+            // There is room.
             let _ = rows.push(row);
         }
         Ok(rows)

@@ -13,6 +13,7 @@ pub(crate) fn put_bytes(bytes: &mut [u8], at: usize, part: &[u8])
     bytes[at..at + part.len()].copy_from_slice(part);
 }
 
+// Each asks for its four bytes: a type for them would be no plainer.
 pub(crate) fn put_u32(bytes: &mut [u8], at: usize, x: u32)
     requires { at + 4 ≤ length bytes.old }
     ensures { bytes.new ≡ put bytes.old at (le 4 x) }

@@ -1,5 +1,5 @@
 -- Equal plans and equal images.
-use Rattle.std.proofs.Common.{◌≡◌, ◌&&◌, eqb, rules, ℕ, Bool, true, List, is_ok, Ok, Err, Decides, Result, sym, refl, ap, ◌∙◌}
+use Rattle.std.proofs.Common.{◌≡◌, rules, Bool, true, is_ok, Ok, Err, Decides, Result, sym, refl, ap}
 use mathlib.Core.Bool.{Bool-set}
 use mathlib.Core.HLevel.{⊥_prop}
 use mathlib.Core.Logic.{∥∥₁_elim, ∥∥₁_map, ∥∥₁_prop}
@@ -9,7 +9,10 @@ use Rattle.image.proofs.Faithful.{one-plan}
 use Rattle.std.proofs.lemmas.Bool.{and_parts, and_from}
 use Rattle.std.proofs.lemmas.Bool.Decides.{Decides-eqb}
 use Rattle.std.proofs.lemmas.Slice.Eq.{slice_eq-Decides}
-use Rattle.std.specs.Cmp.Lexicographic.{pointwise}
+use Rattle.image.specs.contracts.draft.DraftPartialEq.TheImpl as draft
+use Rattle.image.specs.declared.draft.Draft.{Draft}
+use Rattle.image.specs.Drafts.{plan_of}
+use Rattle.bounded.specs.Held.{held}
 use Rattle.line.specs.contracts.parts.ActorPartialEq.TheImpl as actor
 use Rattle.line.specs.contracts.parts.ChannelPartialEq.TheImpl as channel
 use Rattle.line.specs.declared.parts.Actor.{Actor}
@@ -23,36 +26,28 @@ one-project p q e =
     ∥∥₁_elim p.sound ∥∥₁_prop (λ s. ∥∥₁_map q.sound
     (λ t. one-plan (plan p) (plan q) s.lawful.sized s.lawful.ranged t.lawful.sized t.lawful.ranged e))
 
--- the derived tests of the parts decide whether plans are equal
+-- the derived test of drafts decides whether their plans are equal
 actor-Decides : (x y : Actor) → Decides ((actor.eq-value).it x y) (x ≡ y)
 actor-Decides x y = search rules
 
 channel-Decides : (x y : Channel) → Decides ((channel.eq-value).it x y) (x ≡ y)
 channel-Decides x y = search rules
 
-pub same-parts : (p q : Plan) (xs ys : List ℕ) (us vs : List Actor) (m n : ℕ) (cs ds : List Channel)
-    → xs ≡ p.sensors → ys ≡ q.sensors → us ≡ p.actors → vs ≡ q.actors → m ≡ p.actuators → n ≡ q.actuators → cs ≡ p.channels → ds ≡ q.channels
-    → Decides (((pointwise eqb xs ys && pointwise (actor.eq-value).it us vs) && eqb m n) && pointwise (channel.eq-value).it cs ds) (p ≡ q)
-same-parts p q xs ys us vs m n cs ds ex ey ea eb em en ec ed =
-    let s = slice_eq-Decides Decides-eqb xs ys _ refl in
-    let a = slice_eq-Decides actor-Decides us vs _ refl in
-    let k = Decides-eqb m n in
-    let c = slice_eq-Decides channel-Decides cs ds _ refl in (
+pub same-drafts : (d e : Draft) → Decides ((draft.eq-value).it d e) (plan_of d ≡ plan_of e)
+same-drafts d e =
+    let s = slice_eq-Decides Decides-eqb (held d.sensors) (held e.sensors) _ refl in
+    let a = slice_eq-Decides actor-Decides (held d.actors) (held e.actors) _ refl in
+    let k = Decides-eqb d.actuators e.actuators in
+    let c = slice_eq-Decides channel-Decides (held d.channels) (held e.channels) _ refl in (
       λ t.
           let w = and_parts _ _ t in
-          let v = and_parts _ _ w.0 in
-          let u = and_parts _ _ v.0 in
-          λ i. record {
-            sensors = (sym ex ∙ s.0 u.0 ∙ ey) i;
-            actors = (sym ea ∙ a.0 u.1 ∙ eb) i;
-            actuators = (sym em ∙ k.0 v.1 ∙ en) i;
-            channels = (sym ec ∙ c.0 w.1 ∙ ed) i;
-          },
-      λ e.
-          and_from _ _
-          (and_from _ _ (and_from _ _ (s.1 (ex ∙ ap (λ (z : Plan). z.sensors) e ∙ sym ey)) (a.1 (ea ∙ ap (λ (z : Plan). z.actors) e ∙ sym eb)))
-          (k.1 (em ∙ ap (λ (z : Plan). z.actuators) e ∙ sym en)))
-          (c.1 (ec ∙ ap (λ (z : Plan). z.channels) e ∙ sym ed)),
+          let v = and_parts _ _ w.1 in
+          let u = and_parts _ _ v.1 in
+          λ i. record { sensors = s.0 w.0 i; actors = a.0 v.0 i; actuators = k.0 u.0 i; channels = c.0 u.1 i },
+      λ h.
+          and_from _ _ (s.1 (ap (λ (z : Plan). z.sensors) h))
+          (and_from _ _ (a.1 (ap (λ (z : Plan). z.actors) h))
+          (and_from _ _ (k.1 (ap (λ (z : Plan). z.actuators) h)) (c.1 (ap (λ (z : Plan). z.channels) h)))),
     )
 
 -- a test of the plans is a test of the images

@@ -4,13 +4,14 @@ ghost use Rattle.image.specs.Drafts.{plan_of};
 ghost use Rattle.line.specs.Rules.{Misplaced, Doubled, Idle, Unfed, weight};
 ghost use Rattle.project.specs.Tables.{Serves, SeveredBy, InstantBy};
 
-use super::tables::{EXIT, leads, span_between};
+use super::tables::{EXIT, Table, leads, span_between};
 use super::wiring::{end_of, origin_of};
 use image::draft::Draft;
 use line::parts::{Sink, Source};
 use paths::Span;
 
 // Whether channels from x stand before channels from y: sensors first, then by number, then by outlet.
+// The derived order, in the words of the rules.
 fn precedes(x: Source, y: Source) -> bool
     ensures { Decides result (weight x < weight y) }
 {
@@ -60,7 +61,7 @@ pub fn is_unfed(draft: &Draft, actuator: usize) -> bool
 }
 
 // Whether a channel from x to y begins at a sensor and comes to the actor, there or by a path.
-fn serves(reach: &[bool; 1089], actor: u8, x: Source, y: Sink) -> bool
+fn serves(reach: &Table<bool>, actor: u8, x: Source, y: Sink) -> bool
     ensures { Decides result (Serves reach.now actor x y) }
 {
     match (x, y) {
@@ -71,7 +72,7 @@ fn serves(reach: &[bool; 1089], actor: u8, x: Source, y: Sink) -> bool
 }
 
 // Whether no sensor comes to an actor, or it comes to no actuator.
-pub fn is_cut_off(draft: &Draft, reach: &[bool; 1089], actor: usize) -> bool
+pub fn is_cut_off(draft: &Draft, reach: &Table<bool>, actor: usize) -> bool
     ensures { Decides result (SeveredBy (plan_of draft.now) reach.now actor) }
 {
     if actor >= draft.actors.len() {
@@ -86,7 +87,7 @@ pub fn is_cut_off(draft: &Draft, reach: &[bool; 1089], actor: usize) -> bool
 }
 
 // Whether an actor is on a cycle without delay.
-pub fn is_instant(draft: &Draft, far: &[Span; 1089], actor: usize) -> bool
+pub fn is_instant(draft: &Draft, far: &Table<Span>, actor: usize) -> bool
     ensures { Decides result (InstantBy (plan_of draft.now) far.now actor) }
 {
     actor < draft.actors.len() && span_between(far, actor as u8, actor as u8) == Some(0)

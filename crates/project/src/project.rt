@@ -1,6 +1,7 @@
 ghost use Rattle.line.specs.Times.{Sound};
 ghost use Rattle.project.specs.Lines.{line_of};
 
+use crate::tables::Table;
 use image::draft::Draft;
 use paths::Span;
 
@@ -14,7 +15,8 @@ mod writing;
 #[derive(Clone, Copy)]
 pub struct Project {
     draft: Draft,
-    far: [Span; 1089],
+    // Fixed tables beside the draft: the library uses no heap.
+    far: Table<Span>,
     waits: [i64; 32],
     ghost sound: { ∥ Sound (line_of draft far waits) ∥₁ },
 }

@@ -5,6 +5,7 @@ ghost use Rattle.project.specs.Tables.{Small};
 ghost use Rattle.project.specs.RecordsLemmas.{begins-prop, ends-prop};
 ghost use Rattle.std.proofs.Props.{props};
 
+use super::tables::Table;
 use image::draft::Draft;
 use paths::Span;
 
@@ -19,6 +20,6 @@ pub struct Records<'a> {
 #[derive(Drop)]
 pub struct Distances<'a> {
     pub draft: &'a Draft,
-    pub table: [Span; 1089],
+    pub table: Table<Span>,
     ghost small: { Small table },
 }

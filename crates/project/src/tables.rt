@@ -18,6 +18,11 @@ pub const PLACES: usize = 33;
 
 pub const EXIT: u8 = 32;
 
+// PLACES rows of PLACES cells.
+pub const CELLS: usize = 1089;
+
+pub type Table<T> = [T; CELLS];
+
 fn place_of(sink: Sink) -> usize
     ensures { result ≡ place_of sink }
 {
@@ -35,7 +40,7 @@ pub fn delay_at(draft: &Draft, actor: usize, _outlet: usize) -> u32
 }
 
 // Lays the edge of one channel into the table, beside those that are there.
-fn lay(table: &mut [Span; 1089], draft: &Draft, channel: Channel)
+fn lay(table: &mut Table<Span>, draft: &Draft, channel: Channel)
     requires proper { Proper (plan_of draft.now) channel }
     ensures { Adds (plan_of draft.now) channel table.old table.new }
 {
@@ -47,18 +52,18 @@ fn lay(table: &mut [Span; 1089], draft: &Draft, channel: Channel)
 }
 
 // Where there is an edge.
-fn links(edges: &[Span; 1089]) -> [bool; 1089]
-    ensures { (k : ℕ) → k < 1089 → slice_index_or result k false ≡ is_some (length_of (slice_index_or edges.now k no_span)) }
+fn links(edges: &Table<Span>) -> Table<bool>
+    ensures { (k : ℕ) → k < CELLS → slice_index_or result k false ≡ is_some (length_of (slice_index_or edges.now k no_span)) }
 {
     edges.map(|span| span.length().is_some())
 }
 
 impl<'a> Records<'a> {
     // The edges that the channels draw.
-    fn edges(&self) -> [Span; 1089]
+    fn edges(&self) -> Table<Span>
         ensures { Laid (plan_of self.now.draft.now) (plan_of self.now.draft.now).channels result }
     {
-        let mut table = [Span::none(); 1089];
+        let mut table = [Span::none(); CELLS];
         let channels = self.draft.channels.as_slice();
         for c in channels {
             lay(&mut table, self.draft, *c);
@@ -72,6 +77,7 @@ impl<'a> Records<'a> {
         ensures far { Far (plan_of self.now.draft.now) result.table }
     {
         let mut table = self.edges();
+        // The table is square.
         let _ = distances(&mut table, PLACES);
         Distances {
             draft: self.draft,
@@ -80,10 +86,11 @@ impl<'a> Records<'a> {
     }
 
     // Which actors reach which, and which reach an actuator.
-    pub fn reach(&self) -> [bool; 1089]
+    pub fn reach(&self) -> Table<bool>
         ensures { Reach (plan_of self.now.draft.now) result }
     {
         let mut table = links(&self.edges());
+        // The table is square.
         let _ = reaches(&mut table, PLACES);
         table
     }
@@ -97,14 +104,14 @@ fn cell<T: Copy>(table: &[T], b: u8, a: u8) -> Option<T>
 }
 
 // Whether the table leads from b to a.
-pub fn leads(table: &[bool; 1089], b: u8, a: u8) -> bool
+pub fn leads(table: &Table<bool>, b: u8, a: u8) -> bool
     ensures { result ≡ at false places table.now b a }
 {
     cell(table, b, a).unwrap_or(false)
 }
 
 // The length from b to a, if the table has one.
-pub fn span_between(table: &[Span; 1089], b: u8, a: u8) -> Option<u64>
+pub fn span_between(table: &Table<Span>, b: u8, a: u8) -> Option<u64>
     ensures { result ≡ length_at places table.now b a }
 {
     cell(table, b, a)?.length()

@@ -29,6 +29,7 @@ fn fresh_draft() -> Draft
         sink: Sink::Actuator(0),
     };
     let mut sensors = Bounded::new(0);
+    // There is room in each.
     let _ = sensors.push(0);
     let mut actors = Bounded::new(pass);
     let _ = actors.push(pass);
@@ -48,9 +49,6 @@ impl Project {
     pub fn fresh() -> Project
         ensures { plan result ≡ fresh_plan }
     {
-        match Project::of(&fresh_draft()) {
-            Ok(project) => project,
-            Err(_) => unreachable(),
-        }
+        Project::of(&fresh_draft()).unwrap()
     }
 }

@@ -43,8 +43,7 @@ impl Project {
     pub fn channels(&self) -> &[Channel]
         ensures { result.now ≡ (plan self.now).channels }
     {
-        let channels = &self.draft.channels;
-        channels.as_slice()
+        self.draft.channels.as_slice()
     }
 
     pub fn lateness(&self, sensor: usize) -> Option<u32>
@@ -71,24 +70,21 @@ impl Project {
     pub fn wire(&self, actor: u8, outlet: u8) -> Option<Sink>
         ensures { result ≡ wire (plan self.now) actor outlet }
     {
-        end_of(
-            self.draft.channels.as_slice(),
-            Source::Outlet { actor, outlet },
-        )
+        end_of(self.channels(), Source::Outlet { actor, outlet })
     }
 
     // Where a sensor leads.
     pub fn feed(&self, sensor: u8) -> Option<Sink>
         ensures { result ≡ feed (plan self.now) sensor }
     {
-        end_of(self.draft.channels.as_slice(), Source::Sensor(sensor))
+        end_of(self.channels(), Source::Sensor(sensor))
     }
 
     // What feeds an actuator.
     pub fn origin(&self, actuator: u8) -> Option<Source>
         ensures { result ≡ start_of (Actuator actuator) (plan self.now).channels }
     {
-        origin_of(self.draft.channels.as_slice(), Sink::Actuator(actuator))
+        origin_of(self.channels(), Sink::Actuator(actuator))
     }
 
     // The least sum of delays on a path from one actor to another.
