@@ -28,30 +28,14 @@ impl Core {
     pub(crate) fn open(project: Project) -> Core
         ensures { Begins project result }
     {
-        let event = Event {
-            actor: 0,
-            inlet: 0,
-            timestamp: 0,
-            value: 0,
-        };
-        let firing = Running {
-            actor: 0,
-            timestamp: 0,
-            inlets: [None; 4],
-        };
-        let output = Output {
-            actuator: 0,
-            timestamp: 0,
-            value: 0,
-        };
         Core {
             sensors: sensor_rows(&project),
             project,
             clock: 0,
             taking: true,
-            events: Room::new(event),
-            stack: Bounded::new(firing),
-            outputs: Room::new(output),
+            events: Room::new(Event::default()),
+            stack: Bounded::new(Running::default()),
+            outputs: Room::new(Output::default()),
         }
     }
 }

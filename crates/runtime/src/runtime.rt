@@ -20,7 +20,7 @@ pub struct Inner<B: Bank> {
 pub struct Runtime<B: Bank, S: Phase> {
     pub(crate) inner: Inner<B>,
     phase: PhantomData<S>,
-    ghost taking: { inner.core.taking ≡ S.taking },
+    ghost taking: { inner.core.taking ≡ S.TAKING },
 }
 
 // A runtime that takes in events.

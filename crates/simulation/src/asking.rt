@@ -43,28 +43,14 @@ pub(crate) trait Asking: Phase {
     // Those that it does not have.
     ghost lacks: { Call → Bool };
 
-    // Whether no more events come in.
-    const CLOSED: bool;
-
-    ghost CLOSED: { Bool };
-
     // Makes a call; none where it is lacking.
     fn ask<B: Bank>(line: &mut Runtime<B, Self>, call: Call) -> Option<Answer>
         ensures { Asked B.Bank.means (lacks call) line.old.inner call result line.new.inner };
-
-    // It is as the runtime has it.
-    ghost shut: { CLOSED ≡ not Self.taking };
 }
 
 // A close takes the runtime, and so is left to the caller.
 impl Asking for Open {
     ghost lacks = { is_close };
-
-    const CLOSED: bool = false;
-
-    ghost CLOSED = { false };
-
-    ghost shut = { refl };
 
     #[tactic(auto, using(runtime::proofs::Performs::performs))]
     fn ask<B: Bank>(line: &mut Runtime<B, Open>, call: Call) -> Option<Answer> {
@@ -81,12 +67,6 @@ impl Asking for Open {
 
 impl Asking for Closed {
     ghost lacks = { for_open_only };
-
-    const CLOSED: bool = true;
-
-    ghost CLOSED = { true };
-
-    ghost shut = { refl };
 
     fn ask<B: Bank>(line: &mut Runtime<B, Closed>, call: Call) -> Option<Answer> {
         ask_any(line, call)

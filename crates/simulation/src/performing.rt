@@ -37,7 +37,7 @@ fn end<B: Bank, S: Asking>(
         bank: line.end(),
         run: journal.map(|journal| Run {
             journal,
-            closed: S::CLOSED,
+            closed: !S::TAKING,
             status,
         }),
     }
