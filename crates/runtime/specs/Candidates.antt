@@ -9,10 +9,11 @@ use Rattle.runtime.specs.Meant.{no_rows}
 use Rattle.runtime.specs.Model.{state_over}
 use Rattle.runtime.specs.declared.candidate.Candidate.{Candidate}
 
+-- all checks of the start, in their order
 abbrev pub checks : Candidate → List Check
 checks c = start_checks (line c.core.now.project) (state_over c.core.now no_rows) c.firing.actor c.firing.timestamp
 
--- they follow the two on the actor: that it is one, and that events wait at it
+-- the checks on the firing, behind the two on its actor: that it is one, and that an event waits at it
 abbrev pub firing_checks : Candidate → List Check
 firing_checks c = drop 2 (checks c)
 

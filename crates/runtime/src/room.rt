@@ -10,9 +10,9 @@ use queue::{Queue, Ranked};
 use runs::records::{Event, Output};
 
 // Room for events, and for outputs.
-pub type EventRoom = Room<Event, 128>;
+pub(crate) type EventRoom = Room<Event, 128>;
 
-pub type OutputRoom = Room<Output, 64>;
+pub(crate) type OutputRoom = Room<Output, 64>;
 
 // Room for N records: for those that wait, and for those that the stacked firings will send, whose places are set aside.
 #[derive(Drop)]
