@@ -31,7 +31,7 @@ pub fn same_records(first: &[Step], second: &[Step]) -> bool
     same_for_all::<Firing>(first, second) && same_for_all::<Output>(first, second)
 }
 
-// What two journals have in common.
+// What two journals have in common: two answers to two questions, each of which may be yes or no.
 #[derive(Clone, Copy, PartialEq, Eq, Debug)]
 pub struct Comparison {
     // Each sensor gave both the same events.

@@ -43,7 +43,7 @@ pub struct Started {
     pub deadline: u64,
 }
 
-// An output handed out; late where the clock had passed its timestamp.
+// An output handed out; late where the clock had passed its timestamp. An answer by itself: it says nothing of the value.
 #[derive(Clone, Copy, PartialEq, Eq, Debug)]
 pub struct Delivered {
     pub actuator: u8,
