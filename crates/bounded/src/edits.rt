@@ -3,9 +3,9 @@ ghost use Rattle.std.specs.Prelude.{◌≡◌, ◌≤◌, length, take, is_ok, i
 ghost use Rattle.std.specs.Fn.{CalledAt};
 ghost use Rattle.std.specs.List.{slice_get, insert, remove};
 ghost use Rattle.std.specs.List.Retain.{IsFiltered};
-ghost use Rattle.bounded.specs.Held.{held, insertion};
+ghost use Rattle.bounded.specs.Held.{held, insertion, unwanted};
 
-use super::{Bounded, InsertError};
+use super::{Bounded, InsertError, Select};
 
 impl<T: Copy, const N: usize> Bounded<T, N> {
     // Whether there is a record at i, which x then replaces. A bool, as there is one reason to say no.
@@ -56,6 +56,13 @@ impl<T: Copy, const N: usize> Bounded<T, N> {
         ensures bound { length (held self.new) ≤ length (held self.old) }
     {
         self.len = keep_in_front(&mut self.items[..self.len], keep);
+    }
+
+    // Drops each record that s wants, and keeps the others in their order.
+    pub fn drop_where<S: Select<T>>(&mut self, s: &S)
+        ensures { held self.new ≡ unwanted (S.Select.wanted s.now) (held self.old) }
+    {
+        self.retain(|x| !s.wants(x));
     }
 }
 

@@ -5,9 +5,11 @@ ghost use Rattle.std.specs.Prelude.{◌≡◌, ◌≤◌, length, ⊤};
 
 mod edits;
 mod methods;
+mod select;
 #[cfg(test)]
 mod tests;
 
+pub use select::Select;
 use std::alloc::AllocError;
 
 // There was no room for one more record.

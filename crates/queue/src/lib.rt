@@ -5,10 +5,11 @@ ghost use Rattle.std.specs.Prelude.{◌≡◌, ◌≤◌, [], length, is_ok, if�
 ghost use Rattle.std.specs.Fn.{CalledAt};
 ghost use Rattle.std.specs.List.{remove, slice_get};
 ghost use Rattle.std.specs.List.Retain.{IsFiltered};
+ghost use Rattle.bounded.specs.Held.{unwanted};
 ghost use Rattle.queue.specs.Held.{held};
 ghost use Rattle.queue.specs.Order.{OrderLaws, StaysOrdered, put};
 
-use bounded::{Bounded, Full};
+use bounded::{Bounded, Full, Select};
 
 mod ranked;
 #[cfg(test)]
@@ -112,6 +113,13 @@ impl<T: Ranked, const N: usize> Queue<T, N> {
         ensures bound { length (held self.new) ≤ length (held self.old) }
     {
         self.list.retain(keep);
+    }
+
+    // Drops each record that s wants, and keeps the others in their order.
+    pub fn drop_where<S: Select<T>>(&mut self, s: &S)
+        ensures { held self.new ≡ unwanted (S.Select.wanted s.now) (held self.old) }
+    {
+        self.list.drop_where(s);
     }
 
     // No call breaks the order, and its first record has the least rank.
