@@ -1,12 +1,13 @@
 -- What `==` computes of ports decides whether they are the same.
-use Rattle.std.proofs.Common.{◌≡◌, ◌&&◌, ◌==◌, Some, None, sym, refl, ap, rules}
+use Rattle.std.proofs.Common.{◌≡◌, Bool, Some, None, Decides, sym, refl, ap, rules}
+use Rattle.std.specs.Bool.{one_answer}
 use Rattle.std.proofs.lemmas.Bool.{true≢false}
 use Rattle.std.specs.Cmp.{signed_Decides, first_so, second_so}
 use Rattle.std.specs.Cmp.Derive.{both_true}
 use Rattle.std.specs.Cmp.Lexicographic.{pointwise, pointwise_decides}
 use Rattle.std.specs.Option.{option_eq}
 use Rattle.std.specs.Ordering.{int_eq}
-use Rattle.runs.specs.Equal.{Exact}
+use Rattle.runs.specs.Equal.{Exact, running_eq, firing_eq}
 use Rattle.runs.specs.contracts.records.AnswerPartialEq.TheImpl as answer
 use Rattle.runs.specs.contracts.records.FiringPartialEq.TheImpl as firing
 use Rattle.runs.specs.contracts.records.CallPartialEq.TheImpl as call
@@ -22,20 +23,24 @@ port_decides (Some x) None = (λ e. absurd (true≢false (sym e)), λ e. cc)
 port_decides (Some x) (Some y) =
     let d = signed_Decides x y in (λ e. ap Some (d.0 e), λ e. let q : x ≡ y = cc in d.1 q)
 
-ports_decide : Exact (pointwise (option_eq int_eq))
+pub ports_decide : Exact (pointwise (option_eq int_eq))
 ports_decide = pointwise_decides port_decides
 
-pub running_exact : Exact {A = Running}
-    (λ x y. x.actor == y.actor && (x.timestamp == y.timestamp && pointwise (option_eq int_eq) x.inlets y.inlets))
+pub running_exact : Exact running_eq
 running_exact x y = let inlets = ports_decide x.inlets y.inlets in search (rules, inlets)
 
-pub firing_exact : Exact {A = Firing}
-    (λ x y. x.actor == y.actor && (x.timestamp == y.timestamp && (pointwise (option_eq int_eq) x.inlets y.inlets
-    && pointwise (option_eq int_eq) x.outlets y.outlets)))
+pub firing_exact : Exact firing_eq
 firing_exact x y =
     let inlets = ports_decide x.inlets y.inlets in
     let outlets = ports_decide x.outlets y.outlets in
     search (rules, inlets, outlets)
+
+-- what tells whether they are the same answers as it
+pub running_from_exact : (r : Bool) (x y : Running) → Decides r (x ≡ y) → r ≡ running_eq x y
+running_from_exact r x y d = one_answer r _ d (running_exact x y)
+
+pub firing_from_exact : (r : Bool) (x y : Firing) → Decides r (x ≡ y) → r ≡ firing_eq x y
+firing_from_exact r x y d = one_answer r _ d (firing_exact x y)
 
 -- what holds a firing
 pub answer_exact : Exact firing.ghosts.eq → Exact answer.ghosts.eq

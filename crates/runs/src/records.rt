@@ -1,4 +1,10 @@
 // What a runtime holds, is asked and answers.
+ghost use Rattle.std.specs.Prelude.{◌≡◌, Decides};
+ghost use Rattle.std.specs.Cmp.Rules.{comparing};
+ghost use Rattle.std.proofs.Common.{rules};
+ghost use Rattle.std.specs.Cmp as Keys;
+ghost use Rattle.runs.specs.Equal.{running_eq, firing_eq};
+
 use fault::Fault;
 
 // An event that waits at an inlet of an actor.
@@ -11,7 +17,7 @@ pub struct Event {
 }
 
 // A firing that has started and has not finished: a place of the stack.
-#[derive(Clone, Copy, PartialEq, Eq, Debug, Default)]
+#[derive(Clone, Copy, Debug, Default)]
 pub struct Running {
     pub actor: u8,
     pub timestamp: u64,
@@ -19,7 +25,7 @@ pub struct Running {
 }
 
 // A finished firing: what went in and what came out.
-#[derive(Clone, Copy, PartialEq, Eq, Debug, Default)]
+#[derive(Clone, Copy, Debug, Default)]
 pub struct Firing {
     pub actor: u8,
     pub timestamp: u64,
@@ -95,4 +101,51 @@ pub enum Answer {
 pub struct Step {
     pub call: Call,
     pub answer: Answer,
+}
+
+fn same_ports(a: [Option<i32>; 4], b: [Option<i32>; 4]) -> bool
+    ensures { Decides result (a ≡ b) }
+{
+    a == b
+}
+
+// By hand: a derived `==` has no clause, and this one promises that it tells whether two are the same.
+impl PartialEq for Running {
+    ghost eq = { running_eq };
+
+    ghost laws = { Keys.partial_equiv_from_equiv (Prim.search (comparing, rules) depth 9) };
+
+    fn eq(&self, other: &Running) -> bool
+        ensures same { result ≡ running_eq self.now other.now }
+        ensures exact { Decides result (self.now ≡ other.now) }
+    {
+        self.actor == other.actor
+            && self.timestamp == other.timestamp
+            && same_ports(self.inlets, other.inlets)
+    }
+}
+
+impl Eq for Running {
+    ghost laws = { Prim.search (comparing, rules) depth 9 };
+}
+
+// By hand, as that of `Running`.
+impl PartialEq for Firing {
+    ghost eq = { firing_eq };
+
+    ghost laws = { Keys.partial_equiv_from_equiv (Prim.search (comparing, rules) depth 9) };
+
+    fn eq(&self, other: &Firing) -> bool
+        ensures same { result ≡ firing_eq self.now other.now }
+        ensures exact { Decides result (self.now ≡ other.now) }
+    {
+        self.actor == other.actor
+            && self.timestamp == other.timestamp
+            && same_ports(self.inlets, other.inlets)
+            && same_ports(self.outlets, other.outlets)
+    }
+}
+
+impl Eq for Firing {
+    ghost laws = { Prim.search (comparing, rules) depth 9 };
 }
