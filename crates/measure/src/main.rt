@@ -2,11 +2,8 @@
 #![tactic(auto)]
 
 use inputs::arguments;
-use project::project::Project;
+use project::project::{LONGEST, Project};
 use std::fs;
-
-// The length of the longest image.
-const LONGEST: usize = 937;
 
 fn main(rt: HostRuntime) -> anyhow::Result<()> {
     match arguments(&rt)?.as_slice() {

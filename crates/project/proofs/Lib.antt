@@ -13,3 +13,4 @@ pub mod Sounds
 pub mod Reading
 pub mod Freshly
 pub mod Alike
+pub mod Sizes

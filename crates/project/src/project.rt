@@ -11,6 +11,8 @@ mod making;
 mod reading;
 mod writing;
 
+pub use writing::LONGEST;
+
 // A line that keeps every rule, with its distances, deadlines and waits.
 #[derive(Clone, Copy)]
 pub struct Project {

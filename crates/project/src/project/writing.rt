@@ -1,4 +1,4 @@
-ghost use Rattle.std.specs.Prelude.{◌≡◌, Decides};
+ghost use Rattle.std.specs.Prelude.{◌≡◌, ◌≤◌, length, Decides};
 ghost use Rattle.image.specs.Emission.{answer, written};
 ghost use Rattle.image.specs.Encoding.{image};
 ghost use Rattle.project.specs.Project.{RoundTrips, plan};
@@ -7,7 +7,15 @@ use super::Project;
 use fault::Fault;
 use image::emit;
 
+// The length of the longest image: 16 sensors, 32 actors and 96 channels.
+pub const LONGEST: usize = 937;
+
 impl Project {
+    // A buffer of the greatest length takes the image of every project.
+    pub fn fits_the_longest(&self)
+        ensures { length (image (plan self.now)) ≤ LONGEST }
+    {}
+
     // Writes the image to the front of the buffer, leaves the rest and gives the length; a shorter buffer is left as it is.
     pub fn write(&self, buffer: &mut [u8]) -> Result<usize, Fault>
         ensures answer { result ≡ answer (plan self.now) buffer.old }
