@@ -1,7 +1,9 @@
 -- The first space of a text.
-use Rattle.std.proofs.Common.{◌≡◌, ℕ, List, [], ◌∷◌, ◌++◌, ℤ, Some, None, Option, codes, sym, refl, ap, ◌∙◌, arith, rules}
+use Rattle.std.proofs.Common.{◌≡◌, ℕ, List, [], ◌∷◌, ◌++◌, ◌+◌, take, drop, length, ℤ, Some, None, Option, codes, sym, refl, ap, ◌∙◌, arith, rules}
 use Rattle.std.specs.List.{AllByRecursion}
 use Rattle.std.proofs.ByRecursion.{All-weaker}
+use Rattle.std.proofs.lemmas.List.{take-append-drop, append_assoc}
+use Rattle.std.proofs.Math.Seq.{drop-append-add}
 use Rattle.script.specs.Decimals.{Digit, Number, Signed}
 use Rattle.runs.specs.declared.records.Call.{Call}
 use Rattle.runs.specs.declared.records.Call.TheVariants.{Arrive, Advance, Pick, Start, Finish, Deliver, Report}
@@ -66,6 +68,13 @@ module _ (bs w a : List ℕ) (cut : Split bs w a) where
   pub with-arguments : (r : Option Call) → Reads (WithArguments w a) r → Reads (Spells bs) r
   with-arguments None none = λ c h. none c (parted c h)
   with-arguments (Some c) h = joined c h
+
+-- a space in front of a text is its first
+pub longer : (bs w r : List ℕ) (n : ℕ) → Split (take n bs) w r → Split bs w (drop (length w + 1) bs)
+longer bs w r n cut =
+    let whole : bs ≡ w ++ (32 ∷ (r ++ drop n bs)) =
+    sym (take-append-drop n bs) ∙ ap (λ xs. xs ++ drop n bs) cut.whole ∙ append_assoc w (32 ∷ r) (drop n bs) in
+    record { whole = whole ∙ ap (λ xs. w ++ (32 ∷ xs)) (sym (ap (drop (length w + 1)) whole ∙ drop-append-add w (32 ∷ (r ++ drop n bs)) 1)); first = cut.first }
 
 -- the word arrive tells that the call is an arrival
 pub arrival-is : (bs : List ℕ) (c : Call) → WithArguments (codes "arrive") bs c →

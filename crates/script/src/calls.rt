@@ -4,14 +4,14 @@ ghost use Rattle.script.specs.Parts.{HasArguments, Reads, WithArguments};
 ghost use Rattle.script.specs.Spelling.{Spells};
 
 use crate::numbers::{number, signed};
-use crate::words::split;
+use crate::words::{split, split_word};
 use runs::records::Call;
 
 // The call that the text spells.
 pub(crate) fn read_call(text: &[u8]) -> Option<Call>
     ensures { Reads (Spells text.now) result }
 {
-    match split(text) {
+    match split_word(text) {
         Some((word, arguments)) => call_with_arguments(word, arguments),
         None => bare_call(text),
     }

@@ -1,5 +1,6 @@
 // The lines of a script.
-ghost use Rattle.std.specs.Prelude.{◌≡◌, false, map, IfOk, MatchOption};
+ghost use Rattle.std.specs.Prelude.{◌≡◌, ◌<◌, ◌==◌, false, length, map, IfOk, MatchOption};
+ghost use Rattle.std.specs.List.{slice_split};
 ghost use Rattle.script.specs.Spelling.{PassedOver};
 ghost use Rattle.simulation.specs.Calls.{existing};
 ghost use Rattle.simulate.specs.Lines.{lines_of};
@@ -17,13 +18,26 @@ pub struct Entry<'a> {
     pub call: Option<Call>,
 }
 
+// The text whose parts between bytes 10 are the lines: behind a last byte 10 stands no line.
+fn between_ends(script: &[u8]) -> &[u8]
+    requires { 0 < length script.now }
+    ensures { slice_split (λ code. code == 10) result.now ≡ lines_of script.now }
+{
+    match script {
+        [front @ .., b'\n'] => front,
+        _ => script,
+    }
+}
+
 // A line ends with a byte 10; the last one also without it.
 fn lines(heap: Global, script: &[u8]) -> Result<Vec<&[u8]>, AllocError>
     ensures { IfOk result (λ v. map (λ l. l.now) v.items ≡ lines_of script.now) }
 {
-    let mut lines: Vec<&[u8]> = script.split(|code| *code == b'\n').collect(heap)?;
-    // Behind the last byte 10 stands a line only where it is not empty.
-    let _ = lines.pop_if(|line| line.is_empty());
+    if script.is_empty() {
+        return Ok(Vec::new(heap));
+    }
+    let text = between_ends(script);
+    let lines: Vec<&[u8]> = text.split(|code| *code == b'\n').collect(heap)?;
     Ok(lines)
 }
 
