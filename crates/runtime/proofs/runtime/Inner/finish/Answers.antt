@@ -11,7 +11,7 @@ pub returns : goal.returns
 returns g c =
     let was = c.args.self.now in
     let m : Meaning = g.B.Bank.means c.args.self.now.bank in
-    let f = c.in_ok-top.top in
+    let f = c.in-Some.top in
     let s = state g.B.Bank.means was in
     let now = c.unstack.new.self in
     let rows = ap (λ (m : Meaning). state_over now m.rows) c.fire-outlets.ensures.meaning in
